@@ -3,7 +3,7 @@
 //!
 //! Read first: `filter_db_tests`, calls of the tables of two segments and what both bodies of their trait answer.
 //! `shared_tables_tests` has 10,000 calls alike on both, and `pool_tests` a segment that comes and goes a thousand times, alike
-//! to a fresh one, while others learn.
+//! to a fresh one, while others learn. `many_ports_tests` has 255 ports, with members on both sides of each 64.
 //!
 //! What is expected was worked out by hand from IEEE 802.1Q, 6.9 and 8.6 to 8.8, never taken from a run.
 //!

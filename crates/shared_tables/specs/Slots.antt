@@ -76,10 +76,10 @@ pub record IsFreeAll (slots : List Slot) (first : Option ℕ) (is : List ℕ) : 
 abbrev pub HasFreeList : Inside → Type 0
 HasFreeList a = (is : List ℕ) × IsFreeAll a.slots.items a.free is
 
--- so many slots were made, of so many, at most 262,144, for which there is room
+-- so many slots were made, of so many, at most 1,048,576, for which there is room
 pub record IsWithin (made size room : ℕ) : Type 0 where
   pub within : made ≤ size
-  pub few : size ≤ 262144
+  pub few : size ≤ 1048576
   pub fits : size ≤ room
 
 -- the slots that were made, and their free list

@@ -35,15 +35,15 @@ target_at words place = target_in (slice_index_or words place 4294967295)
 abbrev pub number_at : List ℕ → ℕ → ℕ
 number_at numbers i = slice_index_or numbers i 0
 
--- the place on one side of a fork
+-- the place on one side of a fork: those of the roots are smaller
 abbrev pub child_of : ℕ → ℕ → ℕ
-child_of fork side = 262144 + 2 * fork + side
+child_of fork side = 1048576 + 2 * fork + side
 
--- there are as many forks as slots, and two places for each behind the roots; so few that no fork's number is a place's there
+-- there are as many forks as slots, and two places for each; so few that no fork's number is a place's there
 pub record HasSizes (w : Trees) : Type 0 where
-  pub words : length w.words ≡ 262144 + 2 * length w.forks
+  pub words : length w.words ≡ 1048576 + 2 * length w.forks
   pub leaves : length w.leaves ≡ length w.forks
-  pub few : length w.forks ≤ 262144
+  pub few : length w.forks ≤ 1048576
 
 -- a target's number is one of a slot, or of a fork
 abbrev pub Names : Trees → Target → Type 0
@@ -54,7 +54,7 @@ Names w (Fork fork bit) = fork < length w.forks
 -- trees without leaves, where each slot keeps the fork of its number
 abbrev pub bare_trees : ℕ → Trees
 bare_trees size = record {
-  words = replicate (262144 + 2 * size) 4294967295;
+  words = replicate (1048576 + 2 * size) 4294967295;
   leaves = range_with_len 0 size;
   forks = replicate size 0;
 }
@@ -67,7 +67,7 @@ standing (Fork fork bit) number w = record w { forks = slice_set w.forks fork nu
 
 -- where what has a number in a tree stands
 unfoldable pub place_by : ℕ → ℕ → ℕ
-place_by tree number = if nat_lt number 262144 then tree else number
+place_by tree number = if nat_lt number 1048576 then tree else number
 
 -- a slot as the only leaf of a tree, which keeps its fork
 abbrev pub planted : Trees → ℕ → ℕ → Trees
@@ -108,13 +108,13 @@ pub record MayGo (w : Trees) (tree slot : ℕ) : Type 0 where
   pub number_there : tree < 262144
   pub slot_there : slot < length w.leaves
   pub place : number_at w.leaves slot < length w.words
-  pub above : 262144 ≤ number_at w.leaves slot
-      → place_by tree (number_at w.forks ((number_at w.leaves slot - 262144) / 2)) < length w.words
-  pub sibling : 262144 ≤ number_at w.leaves slot
-      → Names w (target_at w.words (child_of ((number_at w.leaves slot - 262144) / 2) (1 - (number_at w.leaves slot - 262144) % 2)))
+  pub above : 1048576 ≤ number_at w.leaves slot
+      → place_by tree (number_at w.forks ((number_at w.leaves slot - 1048576) / 2)) < length w.words
+  pub sibling : 1048576 ≤ number_at w.leaves slot
+      → Names w (target_at w.words (child_of ((number_at w.leaves slot - 1048576) / 2) (1 - (number_at w.leaves slot - 1048576) % 2)))
 
 -- a slot has left its tree
 pub record Uproots (old new : Trees) (tree slot : ℕ) : Type 0 where
-  pub alone : number_at old.leaves slot < 262144 → new ≡ cleared old tree
-  pub behind : 262144 ≤ number_at old.leaves slot
-      → new ≡ pruned old tree ((number_at old.leaves slot - 262144) / 2) ((number_at old.leaves slot - 262144) % 2) slot
+  pub alone : number_at old.leaves slot < 1048576 → new ≡ cleared old tree
+  pub behind : 1048576 ≤ number_at old.leaves slot
+      → new ≡ pruned old tree ((number_at old.leaves slot - 1048576) / 2) ((number_at old.leaves slot - 1048576) % 2) slot

@@ -87,8 +87,8 @@ IsBare words fork = (target_at words (child_of fork 0) ≡ target.Nothing) × (t
 
 -- a number says a place: one behind a fork is its own, and the root of a tree has a smaller one
 pub record IsPlaced (number place : ℕ) : Type 0 where
-  pub behind : 262144 ≤ place → number ≡ place
-  pub root : place < 262144 → number < 262144
+  pub behind : 1048576 ≤ place → number ≡ place
+  pub root : place < 1048576 → number < 1048576
 
 -- what stands at a place has a number that says so: a slot that holds an entry, or a fork
 abbrev pub StandsAt : List (Option Held) → Trees → ℕ → Target → Type 0
@@ -113,9 +113,9 @@ pub record AreTreesOf (entries : List (Option Held)) (w : Trees) : Type 0 where
   pub sizes : HasSizes w
   pub slots : length w.forks ≡ length entries
   pub keys : AreKeys entries
-  pub numbered : (c : ℕ) → c < 262144 → IsTreeOf entries w.words c
+  pub numbered : (c : ℕ) → c < 1048576 → IsTreeOf entries w.words c
   pub stands : (p : ℕ) → StandsAt entries w p (target_at w.words p)
   pub keeper : ℕ → ℕ
   pub frees : (i : ℕ) → i < length entries → entry_at entries i ≡ None → Keeps w keeper (number_at w.leaves i) i
-  pub spares : (c : ℕ) → c < 262144 → target_at w.words c ≢ target.Nothing
+  pub spares : (c : ℕ) → c < 1048576 → target_at w.words c ≢ target.Nothing
       → Keeps w keeper (spare_of w (target_at w.words c)) (1048576 + c)

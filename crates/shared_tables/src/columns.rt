@@ -2,7 +2,9 @@
 //!
 //! A tree has a fork fewer than leaves, and each slot brings one: so a tree that has leaves keeps a fork. Its number stands
 //! for what is at the tree's root where the place of what is behind a fork would, since the address of an entry that goes
-//! tells its tree again: the fork needs no column of its own, and the first leaf of a tree comes and goes by one write.
+//! tells its tree again: the fork needs no column of its own, and the first leaf of a tree comes and goes by one write. So
+//! that no fork's number is such a place, those on the sides of forks are counted from 1,048,576 on, behind all forks that
+//! there may be; no words are kept of the places between them and the roots, at which nothing ever stands.
 ghost use Rattle.std.specs.Prelude.{◌≡◌, ◌+◌, ◌*◌, ◌<◌, ◌≤◌, ◌++◌, ℕ, IfOk, length, replicate, slice_index_or, slice_set, vec_capacity};
 ghost use Rattle.std.specs.List.{range_with_len};
 ghost use Rattle.shared_tables.specs.TreeColumns.{number_at, bare_trees};
@@ -13,6 +15,12 @@ use std::marker::Model;
 
 /// The word of nothing.
 pub const NOTHING: u32 = u32::MAX;
+
+/// The first of the places on the sides of forks. Each number of a fork is smaller, and so are the places of the roots.
+pub const FIRST_SIDE: u32 = 1_048_576;
+
+/// How many places there are between the roots and the sides of forks. Nothing ever stands there, so no word is kept.
+const GAP: usize = FIRST_SIDE as usize - TREES;
 
 /// The three columns of the trees one behind another in one list, for which memory is asked once: what stands at each
 /// place; a number of each slot; a number of each fork. What stands behind a fork has its place as its number; what stands
@@ -60,10 +68,10 @@ fn count_up(numbers: &mut Vec<u32>, count: u32)
 }
 
 impl Columns {
-    /// Those of trees without leaves over so many slots, at most 262,144, where each slot keeps the fork of its number.
+    /// Those of trees without leaves over so many slots, at most 1,048,576, where each slot keeps the fork of its number.
     /// `AllocError`: the growth was refused.
     pub fn new(alloc: Global, size: u32) -> Result<Columns, AllocError>
-        requires { size ≤ 262144 }
+        requires { size ≤ 1048576 }
         ensures { IfOk result (λ w. w ≡ bare_trees size) }
     {
         let slots = size as usize;
@@ -79,13 +87,23 @@ impl Columns {
         })
     }
 
-    /// What stands at a place.
+    /// What stands at the root of a tree.
+    #[inline(always)]
+    pub fn root(&self, tree: usize) -> u32
+        requires { tree < 262144 }
+        ensures { result ≡ slice_index_or self.now.words tree 4294967295 }
+    {
+        self.numbers[tree]
+    }
+
+    /// What stands at a place on the side of a fork.
     #[inline(always)]
     pub fn word(&self, place: usize) -> u32
-        requires { place < length self.now.words }
+        requires side { 1048576 ≤ place }
+        requires there { place < length self.now.words }
         ensures { result ≡ slice_index_or self.now.words place 4294967295 }
     {
-        self.numbers[place]
+        self.numbers[place - GAP]
     }
 
     /// The number of a slot.
@@ -106,13 +124,23 @@ impl Columns {
         self.numbers[self.forks + fork]
     }
 
-    /// Says what stands at a place.
+    /// Says what stands at the root of a tree.
+    #[inline(always)]
+    pub fn set_root(&mut self, tree: usize, word: u32)
+        requires { tree < 262144 }
+        ensures { self.new ≡ record self.old { words = slice_set self.old.words tree word } }
+    {
+        self.numbers[tree] = word;
+    }
+
+    /// Says what stands at a place on the side of a fork.
     #[inline(always)]
     pub fn set_word(&mut self, place: usize, word: u32)
-        requires { place < length self.old.words }
+        requires side { 1048576 ≤ place }
+        requires there { place < length self.old.words }
         ensures { self.new ≡ record self.old { words = slice_set self.old.words place word } }
     {
-        self.numbers[place] = word;
+        self.numbers[place - GAP] = word;
     }
 
     /// Gives a slot another number.

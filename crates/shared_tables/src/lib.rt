@@ -3,9 +3,9 @@
 //! Use first: [`SharedTables`] answers each call of [`filter_db::Tables`] as a list for each segment would, and those of
 //! [`filter_db::PoolTables`]: segments come, go and get other limits. Trees over the bits of VID and address find an address
 //! (`src/trees.rt`), for each segment an age queue finds what is dead (IEEE 802.1Q, 8.8.3), and a free list finds a slot.
-//! None of these calls takes memory, for the slots are reserved when the tables are opened; [`SharedTables::entries`], which
-//! lists the live entries of a segment, takes memory. It, [`SharedTables::entry`] and [`SharedTables::entry_count`] are no
-//! calls of a bridge.
+//! None of these calls takes memory, for the slots are reserved when the tables are opened, 1,048,576 at most;
+//! [`SharedTables::entries`], which lists the live entries of a segment, takes memory. It, [`SharedTables::entry`] and
+//! [`SharedTables::entry_count`] are no calls of a bridge.
 //!
 //! Specs to read: `specs/Shared`, then `specs/Work`; behind these `specs/Segments`, `specs/Pool`, `specs/Bucket` and
 //! `specs/Tree` for how the slots stand for tables. The other files serve proofs and invariants.

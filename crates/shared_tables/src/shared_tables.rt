@@ -63,12 +63,12 @@ impl Model for SharedTables {
 impl SharedTables {
     /// Empty tables, one for each rule, over a pool of this many slots, at moment 0. The rules are for distinct VIDs,
     /// with limits of 1 or more and ageings of 10 to 1,000,000 seconds; the limits together are no more than the
-    /// slots, and those at most 262,144. `AllocError`: a growth was refused.
+    /// slots, and those at most 1,048,576. `AllocError`: a growth was refused.
     pub fn open(alloc: Global, rules: &[TableRule], pool: u32) -> Result<SharedTables, AllocError>
         requires distinct { AreForDistinctVids rules.now }
         requires in_range { All IsRule rules.now }
         requires room { sum_by (λ (rule : TableRule). rule.limit) rules.now ≤ pool }
-        requires size { pool ≤ 262144 }
+        requires size { pool ≤ 1048576 }
         ensures segments { IfOk result (λ t. segments_of t ≡ new_segments rules.now) }
         ensures moment { IfOk result (λ t. t.moment ≡ 0) }
         ensures slots { IfOk result (λ t. t.entries ≡ replicate pool None) }

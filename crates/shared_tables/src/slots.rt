@@ -192,9 +192,9 @@ fn parting(one: u64, other: u64) -> Option<u32>
 }
 
 impl Slots {
-    /// As many free slots as this, at most 262,144: room for them. `AllocError`: the growth was refused.
+    /// As many free slots as this, at most 1,048,576: room for them. `AllocError`: the growth was refused.
     pub fn new(alloc: Global, size: u32) -> Result<Slots, AllocError>
-        requires { size ≤ 262144 }
+        requires { size ≤ 1048576 }
         ensures { IfOk result (λ p. p ≡ free_pool size) }
     {
         let slots = Vec::with_capacity(alloc, size as usize)?;

@@ -6,12 +6,11 @@
 //! a comparison. That no bit comes twice is no rule of its own: the leaves on one side of a fork are alike in its bit, so no
 //! fork there can part them by it again. A new leaf takes the place of the one that the look-up came to, below a new fork,
 //! and a leaf that goes takes the fork above it along: both take a few writes and no walk.
-ghost use Rattle.std.specs.Prelude.{◌≡◌, ◌+◌, ◌-◌, ◌/◌, ◌%◌, ◌<◌, ◌≤◌, ◌↔◌, IsTrue, IfOk, length};
+ghost use Rattle.std.specs.Prelude.{◌≡◌, ◌+◌, ◌-◌, ◌/◌, ◌%◌, ◌<◌, ◌≤◌, ◌↔◌, IsTrue, IfOk, length, slice_set};
 ghost use Rattle.shared_tables.specs.TreeColumns.{target_in, IsFork, fork_word, child_of, target_at, number_at, place_by, planted};
 ghost use Rattle.shared_tables.specs.TreeColumns.{grafted, cleared, pruned, standing, Uproots, MayGo, HasSizes, bare_trees, Names};
 
-use crate::bucket::TREES;
-use crate::columns::{Columns, NOTHING};
+use crate::columns::{Columns, FIRST_SIDE, NOTHING};
 use crate::links::SlotId;
 use std::alloc::{AllocError, Global};
 use std::marker::Model;
@@ -30,9 +29,6 @@ pub enum Target {
 
 /// The first word of a fork; those below it are slots.
 const FORKS: u32 = 1_048_576;
-
-/// The first of the places on the sides of forks, which come behind the roots. A smaller number is no such place.
-const FIRST_SIDE: u32 = TREES as u32;
 
 /// How many bits a key has.
 const BITS: u32 = 64;
@@ -112,23 +108,10 @@ fn child(fork: u32, side: u32) -> u32
     FIRST_SIDE + 2 * fork + side
 }
 
-/// The place where what has a number in a tree stands.
-#[inline(always)]
-#[tactic(auto, unfolding(crate::specs::TreeColumns::place_by))]
-fn place_by(tree: usize, number: u32) -> usize
-    ensures { result ≡ place_by tree number }
-{
-    if number < FIRST_SIDE {
-        tree
-    } else {
-        number as usize
-    }
-}
-
 impl Trees {
-    /// Trees without leaves over so many slots, at most 262,144. `AllocError`: a growth was refused.
+    /// Trees without leaves over so many slots, at most 1,048,576. `AllocError`: a growth was refused.
     pub fn new(alloc: Global, size: u32) -> Result<Trees, AllocError>
-        requires { size ≤ 262144 }
+        requires { size ≤ 1048576 }
         ensures { IfOk result (λ w. w ≡ bare_trees size) }
     {
         Ok(Trees {
@@ -139,10 +122,10 @@ impl Trees {
     /// The word that stands at the root of a tree.
     #[inline(always)]
     pub fn root(&self, tree: usize) -> u32
-        requires { tree < length self.now.words }
+        requires { tree < 262144 }
         ensures { target_in result ≡ target_at self.now.words tree }
     {
-        self.columns.word(tree)
+        self.columns.root(tree)
     }
 
     /// The word that stands on one side of a fork: 0 or 1. It is the only way down a tree, and counts the step.
@@ -164,13 +147,14 @@ impl Trees {
         requires tree { tree < 262144 }
         ensures { self.new ≡ planted self.old tree slot }
     {
-        self.columns.set_word(tree, slot.number);
+        self.columns.set_root(tree, slot.number);
     }
 
     /// Puts a fork in the place of a leaf of a tree, with the leaf and a slot behind it: the slot on this side, 0 or
     /// 1.
     pub fn graft(&mut self, tree: usize, leaf: SlotId, slot: SlotId, bit: u32, side: u32)
         requires sizes { HasSizes self.old }
+        requires tree { tree < 262144 }
         requires leaf { leaf < length self.old.leaves }
         requires slot { slot < length self.old.leaves }
         requires bit { bit < 64 }
@@ -183,8 +167,7 @@ impl Trees {
         let fork = self.columns.leaf(slot.number as usize);
         let own = child(fork, side);
         let other = child(fork, 1 - side);
-        self.columns
-            .set_word(place_by(tree, number), fork_word(fork, bit));
+        self.put(tree, number, fork_word(fork, bit));
         self.columns.set_fork(fork as usize, number);
         self.columns.set_word(own as usize, slot.number);
         self.columns.set_leaf(slot.number as usize, own);
@@ -217,13 +200,14 @@ impl Trees {
         requires tree { tree < 262144 }
         ensures { self.new ≡ cleared self.old tree }
     {
-        self.columns.set_word(tree, NOTHING);
+        self.columns.set_root(tree, NOTHING);
     }
 
     /// Takes a fork of a tree away with the leaf on one side of it: what stands on the other side takes the fork's
     /// place.
     fn prune(&mut self, tree: usize, fork: u32, side: u32, slot: SlotId)
         requires sizes { HasSizes self.old }
+        requires tree { tree < 262144 }
         requires fork { fork < length self.old.forks }
         requires side { side < 2 }
         requires slot { slot < length self.old.leaves }
@@ -234,10 +218,25 @@ impl Trees {
         let sibling = self.columns.word(child(fork, 1 - side) as usize);
         let above = self.columns.fork(fork as usize);
         self.stand(read(sibling), above);
-        self.columns.set_word(place_by(tree, above), sibling);
+        self.put(tree, above, sibling);
         self.columns.set_word(child(fork, 0) as usize, NOTHING);
         self.columns.set_word(child(fork, 1) as usize, NOTHING);
         self.columns.set_leaf(slot.number as usize, fork);
+    }
+
+    /// Says what stands where what has a number in a tree stood.
+    #[inline(always)]
+    #[tactic(auto, unfolding(crate::specs::TreeColumns::place_by))]
+    fn put(&mut self, tree: usize, number: u32, word: u32)
+        requires tree { tree < 262144 }
+        requires place { place_by tree number < length self.old.words }
+        ensures { self.new ≡ record self.old { words = slice_set self.old.words (place_by tree number) word } }
+    {
+        if number < FIRST_SIDE {
+            self.columns.set_root(tree, word);
+        } else {
+            self.columns.set_word(number as usize, word);
+        }
     }
 
     /// Gives a target another number.

@@ -16,7 +16,7 @@ use Rattle.shared_tables.specs.Tree.{Tree}
 use Rattle.shared_tables.specs.TreesOfSlots.{IsRooted, LeadsTo, Belongs, BelongsBeside, AreTreesOf}
 use Rattle.shared_tables.specs.WholePool.{IsWhole, seen}
 use Rattle.shared_tables.specs.Admission.{held_of, MayCome, MayAttach, Attaches}
-use Rattle.shared_tables.proofs.OnTrees.Buckets.{tree_small}
+use Rattle.shared_tables.proofs.OnTrees.Buckets.{tree_there}
 use Rattle.shared_tables.proofs.OnEntries.SoundLemmas.{IsShare, share_with_room, room_is, holds_last, holds_more, thread_ends, sound_at, same_shared, rules_stay, rule_of-with_line}
 use Rattle.shared_tables.proofs.OnEntries.Entering.{enter_free, enter_sound}
 use Rattle.shared_tables.proofs.OnTrees.Grafting.{leaf_lt, place_lt, fork_lt, graft_trees}
@@ -40,7 +40,7 @@ module _ (pool : Pool) (w : Trees) (shares : List (Option Share)) (moment : ℕ)
   enter_frees = enter_free es pool.lines shares moment n.vid own.share h.sound own.here below
 
   pub number_lt : n.tree < 262144
-  number_lt = subst (λ c. c < 262144) (sym m.tree) (tree_small n.vid n.mac)
+  number_lt = subst (λ c. c < 262144) (sym m.tree) (tree_there n.vid n.mac)
 
   pub counts_more : CountsMore (share_at shares n.vid)
   counts_more = subst (λ (o : Option Share). CountsMore o) (sym own.here) below

@@ -14,7 +14,7 @@ use Rattle.shared_tables.specs.Bucket.{IsKey}
 use Rattle.shared_tables.specs.TreesOfSlots.{key_in, IsTreeOf, StandsAt, Keeps, AreTreesOf}
 use Rattle.shared_tables.proofs.OnTrees.TreesOfLemmas.{nothing_word}
 
-module _ (n : ℕ) (few : n ≤ 262144) where
+module _ (n : ℕ) (few : n ≤ 1048576) where
   abbrev w : Trees
   w = bare_trees n
 
@@ -22,11 +22,11 @@ module _ (n : ℕ) (few : n ≤ 262144) where
   es = replicate n None
 
   nothing : (p : ℕ) → target_at w.words p ≡ target.Nothing
-  nothing p = from (cases_lt p (262144 + 2 * n))
+  nothing p = from (cases_lt p (1048576 + 2 * n))
     where
-      from : (p < 262144 + 2 * n) ⊎ (262144 + 2 * n ≤ p) → target_at w.words p ≡ target.Nothing
-      from (inl lt) = ap target_in (get_or-replicate (262144 + 2 * n) p 4294967295 4294967295 lt) ∙ nothing_word
-      from (inr le) = ap target_in (get_or_past w.words p 4294967295 (omega (arith, le, length-replicate {A = ℕ} (262144 + 2 * n) 4294967295))) ∙ nothing_word
+      from : (p < 1048576 + 2 * n) ⊎ (1048576 + 2 * n ≤ p) → target_at w.words p ≡ target.Nothing
+      from (inl lt) = ap target_in (get_or-replicate (1048576 + 2 * n) p 4294967295 4294967295 lt) ∙ nothing_word
+      from (inr le) = ap target_in (get_or_past w.words p 4294967295 (omega (arith, le, length-replicate {A = ℕ} (1048576 + 2 * n) 4294967295))) ∙ nothing_word
 
   free : (i : ℕ) → entry_at es i ≡ None
   free i = from (cases_lt i n)
@@ -52,7 +52,7 @@ module _ (n : ℕ) (few : n ≤ 262144) where
   pub bare_trees_of : AreTreesOf es w
   bare_trees_of = record {
     sizes = record {
-      words = omega (arith, length-replicate {A = ℕ} (262144 + 2 * n) 4294967295, length-replicate {A = ℕ} n 0);
+      words = omega (arith, length-replicate {A = ℕ} (1048576 + 2 * n) 4294967295, length-replicate {A = ℕ} n 0);
       leaves = omega (arith, length-range_with_len 0 n, length-replicate {A = ℕ} n 0);
       few = omega (arith, few, length-replicate {A = ℕ} n 0);
     };

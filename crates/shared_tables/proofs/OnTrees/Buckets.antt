@@ -12,9 +12,12 @@ pub spread_small : (key : ℕ) → spread key < 64
 unfolding spread
 spread_small key = omega arith
 
-pub tree_small : (vid : ℕ) (mac : List ℕ) → tree_of vid mac < 262144
+pub tree_there : (vid : ℕ) (mac : List ℕ) → tree_of vid mac < 262144
 unfolding tree_of
-tree_small vid mac = omega (arith, spread_small (key_of vid mac))
+tree_there vid mac = omega (arith, spread_small (key_of vid mac))
+
+pub tree_small : (vid : ℕ) (mac : List ℕ) → tree_of vid mac < 1048576
+tree_small vid mac = omega (arith, tree_there vid mac)
 
 -- the tree of what a key stands for
 pub number_is : (key vid : ℕ) (mac : List ℕ) → key_of vid mac ≡ key → bucket_of vid mac * 64 + spread key ≡ tree_of vid mac

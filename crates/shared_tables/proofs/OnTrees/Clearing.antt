@@ -20,7 +20,7 @@ use Rattle.shared_tables.proofs.OnTrees.Planting.{root_child, root_frame}
 use Rattle.shared_tables.proofs.OnTrees.TreesOfLemmas.{apart, differ, nothing_word, written_same, written_other, entry_same, entry_other, keys_gone, held_beside, leaf_there, HasTree, tree_beside, some_tree}
 
 -- the only leaf of a tree goes
-module _ (es : List (Option Held)) (w : Trees) (h : AreTreesOf es w) (e : Held) (s : ℕ) (here : entry_at es s ≡ Some e) (root : number_at w.leaves s < 262144) where
+module _ (es : List (Option Held)) (w : Trees) (h : AreTreesOf es w) (e : Held) (s : ℕ) (here : entry_at es s ≡ Some e) (root : number_at w.leaves s < 1048576) where
   abbrev pub c : ℕ
   c = tree_of e.vid e.mac
 
@@ -30,7 +30,7 @@ module _ (es : List (Option Held)) (w : Trees) (h : AreTreesOf es w) (e : Held) 
   abbrev at : ℕ → Target
   at = target_at w.words
 
-  c_lt : c < 262144
+  c_lt : c < 1048576
   c_lt = tree_small e.vid e.mac
 
   keyed : tree_key c (entry_at es s) ≡ true
@@ -90,7 +90,7 @@ module _ (es : List (Option Held)) (w : Trees) (h : AreTreesOf es w) (e : Held) 
     size = omega (arith, ap (λ t. length (leaves t)) tree_is, mine.size, one_more es c s None own_lt, weight_is c (entry_at es s) true keyed, weight_is c None false refl);
   }
 
-  tree_other : (c' : ℕ) → c' < 262144 → nat_eq c' c ≡ false → IsTreeOf es' w'.words c'
+  tree_other : (c' : ℕ) → c' < 1048576 → nat_eq c' c ≡ false → IsTreeOf es' w'.words c'
   tree_other c' clt ne =
       let k = h.numbered c' clt in
       tree_beside es w.words w'.words c' s None own_lt (tree_excl c c' ne (entry_at es s) keyed) refl k
@@ -148,7 +148,7 @@ module _ (es : List (Option Held)) (w : Trees) (h : AreTreesOf es w) (e : Held) 
       let within : i < length es = subst (λ z. i < z) (length-set es s None) ilt in
       keeps (number_at w.leaves i) i (λ q. absurd (omega (arith, q, within, few))) (h.frees i within (sym (entry_other es s i None away) ∙ is)))
 
-  spares : (c' : ℕ) → c' < 262144 → at' c' ≢ target.Nothing → Keeps w' keeper' (spare_of w' (at' c')) (1048576 + c')
+  spares : (c' : ℕ) → c' < 1048576 → at' c' ≢ target.Nothing → Keeps w' keeper' (spare_of w' (at' c')) (1048576 + c')
   spares c' clt some =
       let ne : c' ≢ c = λ q. some (ap at' q ∙ at_none) in
       subst (λ t. Keeps w' keeper' (spare_of w' t) (1048576 + c')) (sym (at_else c' ne))

@@ -74,7 +74,7 @@ module _ (es : List (Option Held)) (w : Trees) (h : AreTreesOf es w) (e : Held) 
   abbrev es' : List (Option Held)
   es' = set es s (Some e)
 
-  c_lt : c < 262144
+  c_lt : c < 1048576
   c_lt = tree_small e.vid e.mac
 
   mine : HasTree es w.words c
@@ -202,20 +202,20 @@ module _ (es : List (Option Held)) (w : Trees) (h : AreTreesOf es w) (e : Held) 
           size = omega (arith, graft_length key s n b mine.tree, mine.size, one_more es c s (Some e) lt, weight_is c (entry_at es s) false (free_off es c s free), weight_is c (Some e) true keyed);
         })
 
-    nothing_stays : (p : ℕ) → p < 262144 → at p ≡ target.Nothing → at' p ≡ target.Nothing
+    nothing_stays : (p : ℕ) → p < 1048576 → at p ≡ target.Nothing → at' p ≡ target.Nothing
     nothing_stays p plt e = at_else p (λ q. place_there (ap at (sym q) ∙ e)) (λ q. absurd (omega (arith, plt, q))) (λ q. absurd (omega (arith, plt, q))) ∙ e
 
-    rooted_other : (c' : ℕ) → c' < 262144 → (t : Option Tree) → is_on leaf (leaves_of t) ≡ false → IsRooted at (at c') t → IsRooted at' (at' c') t
+    rooted_other : (c' : ℕ) → c' < 1048576 → (t : Option Tree) → is_on leaf (leaves_of t) ≡ false → IsRooted at (at c') t → IsRooted at' (at' c') t
     rooted_other c' clt None off k = nothing_stays c' clt k
     rooted_other c' clt (Some t) off k = graft_frame_at at at' leaf n b moves c' t k off
 
-    tree_other : (c' : ℕ) → c' < 262144 → nat_eq c' c ≡ false → IsTreeOf es' w'.words c'
+    tree_other : (c' : ℕ) → c' < 1048576 → nat_eq c' c ≡ false → IsTreeOf es' w'.words c'
     tree_other c' clt ne =
         let old = h.numbered c' clt in
         let off : tree_key c' (entry_at es leaf) ≡ false = tree_excl c c' ne (entry_at es leaf) leaf_key in
         tree_beside es w.words w'.words c' s (Some e) lt (free_off es c' s free) (tree_excl c c' ne (Some e) keyed) old (rooted_other c' clt old.tree (old.members leaf ∙ off) old.rooted)
 
-    numbered : (c' : ℕ) → c' < 262144 → IsTreeOf es' w'.words c'
+    numbered : (c' : ℕ) → c' < 1048576 → IsTreeOf es' w'.words c'
     numbered c' clt = by_bool (nat_eq c' c) (λ yes. subst (IsTreeOf es' w'.words) (sym (equal c' c yes)) tree_mine) (λ no. tree_other c' clt no)
 
     -- ---- who stands where
@@ -289,7 +289,7 @@ module _ (es : List (Option Held)) (w : Trees) (h : AreTreesOf es w) (e : Held) 
     spare_else p ne (target.Leaf i) q k = number_else i (λ r. not_leaf p ne (q ∙ ap target.Leaf r)) (not_free es i s k.1 free)
     spare_else p ne (target.Fork m x) q k = number_other w.forks n number m (not_own m k.2)
 
-    spare_same : (c' : ℕ) → c' < 262144 → spare_of w' (at' c') ≡ spare_of w (at c')
+    spare_same : (c' : ℕ) → c' < 1048576 → spare_of w' (at' c') ≡ spare_of w (at c')
     spare_same c' clt = by_bool (nat_eq c' place)
         (λ yes.
         ap (λ p. spare_of w' (at' p)) (equal c' place yes) ∙ ap (spare_of w') at_there ∙ number_same w.forks n number fork_lt
@@ -298,7 +298,7 @@ module _ (es : List (Option Held)) (w : Trees) (h : AreTreesOf es w) (e : Held) 
         ap (spare_of w') (at_else c' (apart c' place no) (λ q. absurd (omega (arith, clt, q))) (λ q. absurd (omega (arith, clt, q))))
         ∙ spare_else c' (apart c' place no) (at c') refl (h.stands c'))
 
-    spares : (c' : ℕ) → c' < 262144 → at' c' ≢ target.Nothing → Keeps w' h.keeper (spare_of w' (at' c')) (1048576 + c')
+    spares : (c' : ℕ) → c' < 1048576 → at' c' ≢ target.Nothing → Keeps w' h.keeper (spare_of w' (at' c')) (1048576 + c')
     spares c' clt some =
         let few : length es < 1048577 = omega (arith, h.slots, h.sizes.few) in
         subst (λ m. Keeps w' h.keeper m (1048576 + c')) (sym (spare_same c' clt))

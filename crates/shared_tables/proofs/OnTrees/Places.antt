@@ -16,36 +16,36 @@ use Rattle.shared_tables.proofs.OnTrees.TreeLemmas.{same_tree, tree_leaf, only_l
 use Rattle.shared_tables.proofs.OnTrees.TreesOfLemmas.{leaf_there, fork_stands, some_tree}
 
 -- a small number is that of what stands at a root
-pub place_root : (c n : ℕ) → n < 262144 → place_by c n ≡ c
+pub place_root : (c n : ℕ) → n < 1048576 → place_by c n ≡ c
 unfolding place_by
 place_root c n lt =
-    let yes : nat_lt n 262144 ≡ true = grind (arith, nat_tests, lt) in
+    let yes : nat_lt n 1048576 ≡ true = grind (arith, nat_tests, lt) in
     ap (λ b. cond b c n) yes
 
 -- each other one is a place
-pub place_behind : (c n : ℕ) → 262144 ≤ n → place_by c n ≡ n
+pub place_behind : (c n : ℕ) → 1048576 ≤ n → place_by c n ≡ n
 unfolding place_by
 place_behind c n le =
-    let no : nat_lt n 262144 ≡ false = grind (arith, nat_tests, le) in
+    let no : nat_lt n 1048576 ≡ false = grind (arith, nat_tests, le) in
     ap (λ b. cond b c n) no
 
 -- a number says a place of a tree
-pub placed : (c p n : ℕ) → (p < 262144 → p ≡ c) → IsPlaced n p → place_by c n ≡ p
-placed c p n home k = from (cases_lt p 262144)
+pub placed : (c p n : ℕ) → (p < 1048576 → p ≡ c) → IsPlaced n p → place_by c n ≡ p
+placed c p n home k = from (cases_lt p 1048576)
   where
-    from : (p < 262144) ⊎ (262144 ≤ p) → place_by c n ≡ p
+    from : (p < 1048576) ⊎ (1048576 ≤ p) → place_by c n ≡ p
     from (inl lt) = place_root c n (k.root lt) ∙ sym (home lt)
     from (inr le) = place_behind c n (omega (arith, le, k.behind le)) ∙ k.behind le
 
 -- a place behind a fork is its own number
-pub placed_child : (p : ℕ) → 262144 ≤ p → IsPlaced p p
+pub placed_child : (p : ℕ) → 1048576 ≤ p → IsPlaced p p
 placed_child p le = record { behind = λ _. refl; root = λ lt. absurd (omega (arith, lt, le)) }
 
 -- no other place has its number
-pub placed_alone : (n p q : ℕ) → 262144 ≤ q → IsPlaced n p → IsPlaced n q → p ≡ q
-placed_alone n p q le k j = from (cases_lt p 262144)
+pub placed_alone : (n p q : ℕ) → 1048576 ≤ q → IsPlaced n p → IsPlaced n q → p ≡ q
+placed_alone n p q le k j = from (cases_lt p 1048576)
   where
-    from : (p < 262144) ⊎ (262144 ≤ p) → p ≡ q
+    from : (p < 1048576) ⊎ (1048576 ≤ p) → p ≡ q
     from (inl lt) = absurd (omega (arith, k.root lt, j.behind le, le))
     from (inr behind) = sym (k.behind behind) ∙ j.behind le
 
@@ -60,7 +60,7 @@ module _ (es : List (Option Held)) (w : Trees) (h : AreTreesOf es w) where
   fork_placed p n b q = (subst (StandsAt es w p) q (h.stands p)).0
 
   -- a leaf of a tree stands where its number says
-  pub leaf_place : (i c p : ℕ) (t : Tree) → (p < 262144 → p ≡ c) → IsTree at (at p) t → is_on i (leaves t) ≡ true → at (place_by c (number_at w.leaves i)) ≡ target.Leaf i
+  pub leaf_place : (i c p : ℕ) (t : Tree) → (p < 1048576 → p ≡ c) → IsTree at (at p) t → is_on i (leaves t) ≡ true → at (place_by c (number_at w.leaves i)) ≡ target.Leaf i
   leaf_place i c p (Leaf j) home k on =
       let same = only_leaf i j on in
       ap (λ x. at (place_by c (number_at w.leaves x))) same ∙ ap at (placed c p (number_at w.leaves j) home (leaf_placed p j k)) ∙ k ∙ ap target.Leaf (sym same)
@@ -69,7 +69,7 @@ module _ (es : List (Option Held)) (w : Trees) (h : AreTreesOf es w) where
       (λ no. leaf_place i c (child_of n 1) r (λ lt. absurd (omega (arith, lt))) k.2 (other_right i n b l r on no))
 
   -- the root at which a slot stands is that of its tree
-  pub leaf_root : (c p i : ℕ) → tree_key c (entry_at es i) ≡ true → at p ≡ target.Leaf i → p < 262144 → p ≡ c
+  pub leaf_root : (c p i : ℕ) → tree_key c (entry_at es i) ≡ true → at p ≡ target.Leaf i → p < 1048576 → p ≡ c
   leaf_root c p i keyed q lt =
       let k = some_tree es w.words p (leaf_there (at p) i q) (h.numbered p lt) in
       tree_same p c (entry_at es i) (sym (k.members i) ∙ tree_leaf at (at p) i k.tree q k.rooted) keyed
@@ -79,7 +79,7 @@ module _ (es : List (Option Held)) (w : Trees) (h : AreTreesOf es w) where
   leaf_alone c p i keyed q = placed c p (number_at w.leaves i) (leaf_root c p i keyed q) (leaf_placed p i q)
 
   -- a fork that stands at two roots has leaves of both trees
-  fork_root : (p q n b d : ℕ) → at p ≡ target.Fork n b → at q ≡ target.Fork n d → p < 262144 → q < 262144 → p ≡ q
+  fork_root : (p q n b d : ℕ) → at p ≡ target.Fork n b → at q ≡ target.Fork n d → p < 1048576 → q < 1048576 → p ≡ q
   fork_root p q n b d one two plt qlt =
       let k = some_tree es w.words p (fork_stands (at p) n b one) (h.numbered p plt) in
       let j = some_tree es w.words q (fork_stands (at q) n d two) (h.numbered q qlt) in
@@ -100,9 +100,9 @@ module _ (es : List (Option Held)) (w : Trees) (h : AreTreesOf es w) where
 
   -- a fork stands at one place
   pub fork_alone : (p q n b d : ℕ) → at p ≡ target.Fork n b → at q ≡ target.Fork n d → p ≡ q
-  fork_alone p q n b d one two = from (cases_lt p 262144) (cases_lt q 262144)
+  fork_alone p q n b d one two = from (cases_lt p 1048576) (cases_lt q 1048576)
     where
-      from : (p < 262144) ⊎ (262144 ≤ p) → (q < 262144) ⊎ (262144 ≤ q) → p ≡ q
+      from : (p < 1048576) ⊎ (1048576 ≤ p) → (q < 1048576) ⊎ (1048576 ≤ q) → p ≡ q
       from (inl plt) (inl qlt) = fork_root p q n b d one two plt qlt
       from k (inr le) = placed_alone (number_at w.forks n) p q le (fork_placed p n b one) (fork_placed q n d two)
       from (inr le) (inl qlt) = sym (placed_alone (number_at w.forks n) q p le (fork_placed q n d two) (fork_placed p n b one))

@@ -17,7 +17,7 @@ use Rattle.shared_tables.proofs.OnTrees.Grafting.{free_off, one_more, weight_is}
 use Rattle.shared_tables.proofs.OnTrees.TreesOfLemmas.{apart, differ, leaf_word, written_same, written_other, entry_same, entry_other, keys_set, held_beside, held_here, not_free, tree_beside}
 
 -- only the root of one tree changes
-module _ (words : List ℕ) (c v : ℕ) (c_lt : c < 262144) where
+module _ (words : List ℕ) (c v : ℕ) (c_lt : c < 1048576) where
   pub root_child : (m s : ℕ) → target_at (set words c v) (child_of m s) ≡ target_at words (child_of m s)
   root_child m s = written_other words c v (child_of m s) (λ q. absurd (omega (arith, q, c_lt)))
 
@@ -45,7 +45,7 @@ module _ (es : List (Option Held)) (w : Trees) (h : AreTreesOf es w) (e : Held) 
   abbrev at' : ℕ → Target
   at' = target_at w'.words
 
-  c_lt : c < 262144
+  c_lt : c < 1048576
   c_lt = tree_small e.vid e.mac
 
   s_lt : s < length w.leaves
@@ -87,7 +87,7 @@ module _ (es : List (Option Held)) (w : Trees) (h : AreTreesOf es w) (e : Held) 
         size = omega (arith, was.0, old.size, one_more es c s (Some e) lt, weight_is c (entry_at es s) false (free_off es c s free), weight_is c (Some e) true keyed);
       }
 
-  tree_other : (c' : ℕ) → c' < 262144 → nat_eq c' c ≡ false → IsTreeOf es' w'.words c'
+  tree_other : (c' : ℕ) → c' < 1048576 → nat_eq c' c ≡ false → IsTreeOf es' w'.words c'
   tree_other c' clt ne =
       let k = h.numbered c' clt in
       tree_beside es w.words w'.words c' s (Some e) lt (free_off es c' s free) (tree_excl c c' ne (Some e) keyed) k
@@ -137,7 +137,7 @@ module _ (es : List (Option Held)) (w : Trees) (h : AreTreesOf es w) (e : Held) 
       let away : i ≢ s = λ q. let bad : Some e ≡ None = sym (entry_same es s (Some e) lt) ∙ ap (entry_at es') (sym q) ∙ is in cc in
       keeps (number_at w.leaves i) i away (h.frees i (subst (λ z. i < z) (length-set es s (Some e)) ilt) (sym (entry_other es s i (Some e) away) ∙ is))
 
-  spares : (c' : ℕ) → c' < 262144 → at' c' ≢ target.Nothing → Keeps w' keeper' (spare_of w' (at' c')) (1048576 + c')
+  spares : (c' : ℕ) → c' < 1048576 → at' c' ≢ target.Nothing → Keeps w' keeper' (spare_of w' (at' c')) (1048576 + c')
   spares c' clt some = by_bool (nat_eq c' c)
       (λ yes. subst (λ x. Keeps w' keeper' (spare_of w' (at' x)) (1048576 + x)) (sym (equal c' c yes)) (subst (λ t. Keeps w' keeper' (spare_of w' t) (1048576 + c)) (sym at_root) keeps_own))
       (λ no.

@@ -60,14 +60,14 @@ standing_forks (target.Fork m c) place w = length-set w.forks m place
 -- where a fork of a tree stands
 record ForkPlace (at : ℕ → Target) (c fork : ℕ) : Type 0 where
   place : ℕ
-  home : place < 262144 → place ≡ c
+  home : place < 1048576 → place ≡ c
   bit : ℕ
   here : at place ≡ target.Fork fork bit
   tree : Tree
   stands : IsTree at (at place) tree
 
 -- the fork before a leaf that stands behind one
-fork_before : (at : ℕ → Target) (c s fork side : ℕ) → side < 2 → ((p : ℕ) → at p ≡ target.Leaf s → p ≡ child_of fork side) → (p : ℕ) (t : Tree) → (p < 262144 → p ≡ c) → IsTree at (at p) t → is_on s (leaves t) ≡ true → (at p ≡ target.Leaf s) ⊎ ForkPlace at c fork
+fork_before : (at : ℕ → Target) (c s fork side : ℕ) → side < 2 → ((p : ℕ) → at p ≡ target.Leaf s → p ≡ child_of fork side) → (p : ℕ) (t : Tree) → (p < 1048576 → p ≡ c) → IsTree at (at p) t → is_on s (leaves t) ≡ true → (at p ≡ target.Leaf s) ⊎ ForkPlace at c fork
 fork_before at c s fork side two only p (Leaf i) home h on = inl (h ∙ ap target.Leaf (sym (only_leaf s i on)))
 fork_before at c s fork side two only p (Fork n b l r) home h on = by_bool (is_on s (leaves l))
     (λ yes. from 0 (omega arith) (fork_before at c s fork side two only (child_of n 0) l (λ lt. absurd (omega (arith, lt))) h.1 yes))
@@ -79,7 +79,7 @@ fork_before at c s fork side two only p (Fork n b l r) home h on = by_bool (is_o
         inr (record { place = p; home = home; bit = b; here = h.0 ∙ ap (λ k. target.Fork k b) same; tree = Fork n b l r; stands = h })
     from z zlt (inr k) = inr k
 
-module _ (es : List (Option Held)) (w : Trees) (h : AreTreesOf es w) (e : Held) (s : ℕ) (here : entry_at es s ≡ Some e) (behind : 262144 ≤ number_at w.leaves s) where
+module _ (es : List (Option Held)) (w : Trees) (h : AreTreesOf es w) (e : Held) (s : ℕ) (here : entry_at es s ≡ Some e) (behind : 1048576 ≤ number_at w.leaves s) where
   abbrev c : ℕ
   c = tree_of e.vid e.mac
 
@@ -87,10 +87,10 @@ module _ (es : List (Option Held)) (w : Trees) (h : AreTreesOf es w) (e : Held) 
   place = number_at w.leaves s
 
   abbrev fork : ℕ
-  fork = (place - 262144) / 2
+  fork = (place - 1048576) / 2
 
   abbrev side : ℕ
-  side = (place - 262144) % 2
+  side = (place - 1048576) % 2
 
   abbrev at : ℕ → Target
   at = target_at w.words
@@ -110,7 +110,7 @@ module _ (es : List (Option Held)) (w : Trees) (h : AreTreesOf es w) (e : Held) 
   place_is : place ≡ child_of fork side
   place_is = omega (arith, behind)
 
-  c_lt : c < 262144
+  c_lt : c < 1048576
   c_lt = tree_small e.vid e.mac
 
   keyed : tree_key c (entry_at es s) ≡ true
@@ -268,7 +268,7 @@ module _ (es : List (Option Held)) (w : Trees) (h : AreTreesOf es w) (e : Held) 
   moves_there : (p : ℕ) → at p ≢ target.Nothing → p ≢ child_of fork 0 → p ≢ child_of fork 1 → at' p ≢ target.Nothing
   moves_there p some r t = subst (λ y. y ≢ target.Nothing) (sym (moves p some r t)) (to_there fork rest (at p) rest_there some)
 
-  root_not : (p z : ℕ) → p < 262144 → p ≢ child_of fork z
+  root_not : (p z : ℕ) → p < 1048576 → p ≢ child_of fork z
   root_not p z plt q = omega (arith, plt, q)
 
   -- ---- the trees
@@ -305,20 +305,20 @@ module _ (es : List (Option Held)) (w : Trees) (h : AreTreesOf es w) (e : Held) 
             size = omega (arith, short, mine.size, one_more es c s None own_lt, weight_is c (entry_at es s) true keyed, weight_is c None false refl);
           })
 
-  nothing_stays : (p : ℕ) → p < 262144 → at p ≡ target.Nothing → at' p ≡ target.Nothing
+  nothing_stays : (p : ℕ) → p < 1048576 → at p ≡ target.Nothing → at' p ≡ target.Nothing
   nothing_stays p plt q = at_else p (λ r. above_there (ap at (sym r) ∙ q)) (root_not p 0 plt) (root_not p 1 plt) ∙ q
 
-  rooted_other : (c' : ℕ) → c' < 262144 → (t : Option Tree) → is_on s (leaves_of t) ≡ false → IsRooted at (at c') t → IsRooted at' (at' c') t
+  rooted_other : (c' : ℕ) → c' < 1048576 → (t : Option Tree) → is_on s (leaves_of t) ≡ false → IsRooted at (at c') t → IsRooted at' (at' c') t
   rooted_other c' clt None off k = nothing_stays c' clt k
   rooted_other c' clt (Some t) off k = prune_frame_at at at' s fork side two at_own moves c' clt t k off
 
-  tree_other : (c' : ℕ) → c' < 262144 → nat_eq c' c ≡ false → IsTreeOf es' w'.words c'
+  tree_other : (c' : ℕ) → c' < 1048576 → nat_eq c' c ≡ false → IsTreeOf es' w'.words c'
   tree_other c' clt ne =
       let k = h.numbered c' clt in
       let off : tree_key c' (entry_at es s) ≡ false = tree_excl c c' ne (entry_at es s) keyed in
       tree_beside es w.words w'.words c' s None own_lt off refl k (rooted_other c' clt k.tree (k.members s ∙ off) k.rooted)
 
-  numbered : (c' : ℕ) → c' < 262144 → IsTreeOf es' w'.words c'
+  numbered : (c' : ℕ) → c' < 1048576 → IsTreeOf es' w'.words c'
   numbered c' clt = by_bool (nat_eq c' c) (λ yes. subst (IsTreeOf es' w'.words) (sym (equal c' c yes)) (tree_left left refl)) (λ no. tree_other c' clt no)
 
   -- ---- who stands where
@@ -427,7 +427,7 @@ module _ (es : List (Option Held)) (w : Trees) (h : AreTreesOf es w) (e : Held) 
   spare_rest (target.Fork m x) q k = ap (λ (t : Target). number_at (standing t above w).forks m) q ∙ number_same w.forks m above k.1
 
   -- and what stands elsewhere at a root its own
-  spare_else : (p : ℕ) → p < 262144 → (t : Target) → at p ≡ t → StandsAt es w p t → spare_of w' t ≡ spare_of w t
+  spare_else : (p : ℕ) → p < 1048576 → (t : Target) → at p ≡ t → StandsAt es w p t → spare_of w' t ≡ spare_of w t
   spare_else p plt target.Nothing q k = refl
   spare_else p plt (target.Leaf i) q k =
       let away : i ≢ s = λ x. absurd (omega (arith, plt, only p (q ∙ ap target.Leaf x))) in
@@ -435,14 +435,14 @@ module _ (es : List (Option Held)) (w : Trees) (h : AreTreesOf es w) (e : Held) 
       number_else i away other
   spare_else p plt (target.Fork m x) q k = standing_fork rest above w m (λ b y. absurd (omega (arith, plt, fork_alone es w h p (child_of fork (1 - side)) m x b q y)))
 
-  spare_same : (c' : ℕ) → c' < 262144 → spare_of w' (at' c') ≡ spare_of w (at c')
+  spare_same : (c' : ℕ) → c' < 1048576 → spare_of w' (at' c') ≡ spare_of w (at c')
   spare_same c' clt = by_bool (nat_eq c' top)
       (λ yes.
       ap (λ p. spare_of w' (at' p)) (equal c' top yes) ∙ ap (spare_of w') at_rest ∙ spare_rest rest refl (h.stands (child_of fork (1 - side)))
       ∙ ap (spare_of w) (sym at_above) ∙ ap (λ p. spare_of w (at p)) (sym (equal c' top yes)))
       (λ no. ap (spare_of w') (at_else c' (apart c' top no) (root_not c' 0 clt) (root_not c' 1 clt)) ∙ spare_else c' clt (at c') refl (h.stands c'))
 
-  spares : (c' : ℕ) → c' < 262144 → at' c' ≢ target.Nothing → Keeps w' keeper' (spare_of w' (at' c')) (1048576 + c')
+  spares : (c' : ℕ) → c' < 1048576 → at' c' ≢ target.Nothing → Keeps w' keeper' (spare_of w' (at' c')) (1048576 + c')
   spares c' clt some = subst (λ m. Keeps w' keeper' m (1048576 + c')) (sym (spare_same c' clt)) (keeps (spare_of w (at c')) (1048576 + c') (h.spares c' clt (λ none. some (nothing_stays c' clt none))))
 
   words_len : length w'.words ≡ length w.words
@@ -485,7 +485,7 @@ module _ (es : List (Option Held)) (w : Trees) (h : AreTreesOf es w) (e : Held) 
     leads = prune_leads (keys_of es s) key s leaf mine.tree (differ leaf s ne) own_way way;
   }
 
-  belongs_beside : (c' key : ℕ) → c' < 262144 → nat_eq c' c ≡ false → (leaf : Option ℕ) → Belongs w.words c' key leaf → Belongs w'.words c' key leaf
+  belongs_beside : (c' key : ℕ) → c' < 1048576 → nat_eq c' c ≡ false → (leaf : Option ℕ) → Belongs w.words c' key leaf → Belongs w'.words c' key leaf
   belongs_beside c' key clt ne leaf b = record { tree = b.tree; rooted = from b.tree b.rooted; leads = b.leads }
     where
       k : IsTreeOf es w.words c'
@@ -501,7 +501,7 @@ module _ (es : List (Option Held)) (w : Trees) (h : AreTreesOf es w) (e : Held) 
           let same : t ≡ own.tree = same_tree at (at c') t own.tree r own.rooted in
           rooted_other c' clt (Some t) (ap (λ u. is_on s (leaves u)) same ∙ own.members s ∙ off) r
 
-  pub prune_belongs : (c' key : ℕ) → c' < 262144 → (leaf : Option ℕ) → leaf ≢ Some s → Belongs w.words c' key leaf → Belongs w'.words c' key leaf
+  pub prune_belongs : (c' key : ℕ) → c' < 1048576 → (leaf : Option ℕ) → leaf ≢ Some s → Belongs w.words c' key leaf → Belongs w'.words c' key leaf
   prune_belongs c' key clt leaf ne b = by_bool (nat_eq c' c)
       (λ yes. subst (λ x. Belongs w'.words x key leaf) (sym (equal c' c yes)) (here_belongs leaf ne (subst (λ x. Belongs w.words x key leaf) (equal c' c yes) b)))
       (λ no. belongs_beside c' key clt no leaf b)

@@ -28,7 +28,7 @@ module _ (es : List (Option Held)) (w : Trees) (h : AreTreesOf es w) (e f : Held
   abbrev es' : List (Option Held)
   es' = set es s (Some f)
 
-  c_lt : c < 262144
+  c_lt : c < 1048576
   c_lt = tree_small e.vid e.mac
 
   keyed : tree_key c (entry_at es s) ≡ true
@@ -79,7 +79,7 @@ module _ (es : List (Option Held)) (w : Trees) (h : AreTreesOf es w) (e f : Held
         size = omega (arith, mine.size, one_more es c s (Some f) own_lt, weight_is c (entry_at es s) true keyed, weight_is c (Some f) true keyed_new);
       })
 
-      tree_other : (c' : ℕ) → c' < 262144 → nat_eq c' c ≡ false → IsTreeOf es' w.words c'
+      tree_other : (c' : ℕ) → c' < 1048576 → nat_eq c' c ≡ false → IsTreeOf es' w.words c'
       tree_other c' clt ne = let k = h.numbered c' clt in tree_beside es w.words w.words c' s (Some f) own_lt (tree_excl c c' ne (entry_at es s) keyed) (tree_excl c c' ne (Some f) keyed_new) k k.rooted
 
       stays : (p : ℕ) (t : Target) → StandsAt es w p t → StandsAt es' w p t

@@ -442,11 +442,11 @@ module _ (at at' : ℕ → Target) (x fork side : ℕ) (two : side < 2) (here_x 
       )
 
   -- a root is behind no fork
-  not_root : (p side' : ℕ) → p < 262144 → p ≢ child_of fork side'
+  not_root : (p side' : ℕ) → p < 1048576 → p ≢ child_of fork side'
   not_root p side' lt e = omega (arith, lt, e)
 
   -- from a root on
-  pub prune_frame_at : (p : ℕ) → p < 262144 → (t : Tree) → IsTree at (at p) t → is_on x (leaves t) ≡ false → IsTree at' (at' p) t
+  pub prune_frame_at : (p : ℕ) → p < 1048576 → (t : Tree) → IsTree at (at p) t → is_on x (leaves t) ≡ false → IsTree at' (at' p) t
   prune_frame_at p lt t h off = subst (λ y. IsTree at' y t) (sym (prune_same p t (not_root p 0 lt) (not_root p 1 lt) h off)) (prune_frame _ t h off)
 
   module _ (keys : ℕ → ℕ) (only : (p : ℕ) → at p ≡ target.Leaf x → p ≡ child_of fork side) where

@@ -5,7 +5,7 @@ use Rattle.shared_tables.specs.Pool.{Held, entry_at, tree_in}
 use Rattle.shared_tables.specs.Bucket.{tree_of}
 use Rattle.shared_tables.specs.TreeColumns.{Trees, Uproots, MayGo, number_at}
 use Rattle.shared_tables.specs.TreesOfSlots.{Belongs, AreTreesOf}
-use Rattle.shared_tables.proofs.OnTrees.Buckets.{tree_small}
+use Rattle.shared_tables.proofs.OnTrees.Buckets.{tree_there}
 use Rattle.shared_tables.proofs.OnTrees.Clearing as clear
 use Rattle.shared_tables.proofs.OnTrees.Pruning as prune
 
@@ -16,18 +16,18 @@ module _ (es : List (Option Held)) (w w' : Trees) (h : AreTreesOf es w) (e : Hel
 
   -- without the only leaf of its tree, or without a leaf beside others
   abbrev Either : Type 0
-  Either = (number_at w.leaves s < 262144) ⊎ (262144 ≤ number_at w.leaves s)
+  Either = (number_at w.leaves s < 1048576) ⊎ (1048576 ≤ number_at w.leaves s)
 
   pub uproot_trees : AreTreesOf (set es s None) w'
-  uproot_trees = from (cases_lt (number_at w.leaves s) 262144)
+  uproot_trees = from (cases_lt (number_at w.leaves s) 1048576)
     where
       from : Either → AreTreesOf (set es s None) w'
       from (inl root) = subst (AreTreesOf (set es s None)) (sym (own.alone root)) (clear.clear_trees es w h e s here root)
       from (inr behind) = subst (AreTreesOf (set es s None)) (sym (own.behind behind)) (prune.prune_trees es w h e s here behind)
 
   -- where another key belongs, it belongs afterwards
-  pub uproot_belongs : (c key : ℕ) → c < 262144 → (leaf : Option ℕ) → leaf ≢ Some s → Belongs w.words c key leaf → Belongs w'.words c key leaf
-  uproot_belongs c key lt leaf ne b = from (cases_lt (number_at w.leaves s) 262144)
+  pub uproot_belongs : (c key : ℕ) → c < 1048576 → (leaf : Option ℕ) → leaf ≢ Some s → Belongs w.words c key leaf → Belongs w'.words c key leaf
+  uproot_belongs c key lt leaf ne b = from (cases_lt (number_at w.leaves s) 1048576)
     where
       from : Either → Belongs w'.words c key leaf
       from (inl root) = subst (λ (x : Trees). Belongs x.words c key leaf) (sym (own.alone root)) (clear.clear_belongs es w h e s here root c key leaf ne b)
@@ -36,18 +36,18 @@ module _ (es : List (Option Held)) (w w' : Trees) (h : AreTreesOf es w) (e : Hel
 module _ (es : List (Option Held)) (w : Trees) (h : AreTreesOf es w) (e : Held) (s : ℕ) (here : entry_at es s ≡ Some e) where
   -- what letting it go reads is there
   pub may_go : MayGo w (tree_in (entry_at es s)) s
-  may_go = subst (λ c. MayGo w c s) (sym (ap tree_in here)) (from (cases_lt (number_at w.leaves s) 262144))
+  may_go = subst (λ c. MayGo w c s) (sym (ap tree_in here)) (from (cases_lt (number_at w.leaves s) 1048576))
     where
-      from : (number_at w.leaves s < 262144) ⊎ (262144 ≤ number_at w.leaves s) → MayGo w (tree_of e.vid e.mac) s
+      from : (number_at w.leaves s < 1048576) ⊎ (1048576 ≤ number_at w.leaves s) → MayGo w (tree_of e.vid e.mac) s
       from (inl root) = record {
-        number_there = tree_small e.vid e.mac;
+        number_there = tree_there e.vid e.mac;
         slot_there = clear.s_lt es w h e s here root;
         place = clear.place_lt es w h e s here root;
         above = λ le. absurd (omega (arith, le, root));
         sibling = λ le. absurd (omega (arith, le, root));
       }
       from (inr behind) = record {
-        number_there = tree_small e.vid e.mac;
+        number_there = tree_there e.vid e.mac;
         slot_there = prune.s_lt es w h e s here behind;
         place = prune.place_lt es w h e s here behind;
         above = λ _. prune.above_lt es w h e s here behind;

@@ -1,6 +1,6 @@
 //! The live entries of a segment, listed.
 //!
-//! A listing sorts words of 128 bits: in the lowest 20 a slot, of which a pool has at most 262,144, and in the 48 above its
+//! A listing sorts words of 128 bits: in the lowest 20 a slot, of which a pool has at most 1,048,576, and in the 48 above its
 //! address. Addresses are in order as the numbers of their octets, which is proved, and no two rows have the same. Room for
 //! the words is asked for by the count of the segment's entries, dead ones too, and room for the rows by what is live.
 ghost use Rattle.std.specs.Prelude.{◌≡◌, ◌≤◌, ◌%◌, ℕ, [], IfOk, OnOk};

@@ -1,8 +1,8 @@
-use Rattle.std.proofs.Common.{◌≡◌, ℕ, ◌+◌, ◌*◌, ◌++◌, List, [], length, replicate, ap, ◌∙◌, arith, length-append}
+use Rattle.std.proofs.Common.{◌≡◌, ℕ, ◌+◌, ◌*◌, ◌++◌, List, [], length, replicate, refl, ap, ◌∙◌, arith, length-append}
 use Rattle.std.specs.List.{range_with_len}
 use Rattle.std.proofs.lemmas.List.{append_assoc, length-replicate}
 use Rattle.std.proofs.lemmas.List.FromFn.{length-range_with_len}
-use Rattle.shared_tables.proofs.OnTrees.ColumnsLemmas.{split, parts}
+use Rattle.shared_tables.proofs.OnTrees.ColumnsLemmas.{split, parts, bare_words}
 use Rattle.shared_tables.proofs.columns.Columns.new.Goals as goal
 
 pub fill-requires-2 : goal.fill-requires-2
@@ -28,6 +28,7 @@ invariant_of-result c =
     let n = c.args.size in
     let start : c.in_ok-numbers.numbers.items ≡ [] = c.in_ok-numbers.ensures.items in
     record {
+      roots = omega arith;
       leaves = omega arith;
       forks = omega (
         arith,
@@ -55,3 +56,4 @@ returns c =
     let all : c.fill-2.new.numbers.items ≡ words ++ (leaves ++ forks) = c.fill-2.ensures.items ∙ ap (λ (xs : List ℕ). xs ++ forks) two ∙ append_assoc words leaves forks in
     ap (split (262144 + 2 * n) (262144 + 2 * n + n)) all
     ∙ parts words leaves forks (262144 + 2 * n) (262144 + 2 * n + n) (length-replicate {A = ℕ} (262144 + 2 * n) 4294967295) (omega (arith, length-range_with_len 0 n))
+    ∙ ap (λ (ws : List ℕ). record { words = ws; leaves = leaves; forks = forks }) (bare_words (2 * n) 4294967295 refl)

@@ -2,6 +2,8 @@
 # The program from its words to its status, its texts and its files: what a test within the program can't reach, such as
 # standard error, files that can't be read, and a device that is full.
 set -u
+# What stands last in a pipe runs in this shell, so that its complaints count.
+shopt -s lastpipe
 cd "$(dirname "$0")/.." || exit 1
 folder=$(mktemp -d)
 trap 'rm -rf "$folder"' EXIT

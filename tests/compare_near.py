@@ -106,7 +106,7 @@ LINES = [
     ("a cut line", "1 5 p2 1 10 p1=64\n2 6 p2 2 10 p1=6", [1], "decisions.txt for p1: line NoEnd"),
     ("no number", "1 5 p2 1 10 p1=64\nx 6 p2 2 10 p1=64\n", [1], "decisions.txt for p1: line Number"),
     ("an event twice", "1 5 p2 1 10 p1=64\n1 6 p2 2 10 p1=64\n", [1], "decisions.txt for p1: event 1 behind a later one"),
-    ("a long line", "1 5 p2 1 10 p1=64\n2 6 p2 2 10 " + "x" * 5000 + "\n", [1], "decisions.txt for p1: long line"),
+    ("a long line", "1 5 p2 1 10 p1=64\n2 6 p2 2 10 " + "x" * 131_072 + "\n", [1], "decisions.txt for p1: long line"),
 ]
 
 

@@ -3,6 +3,8 @@
 # parts that has each segment in one of them, and one of them into each segment by itself. What isn't a whole run is refused,
 # and said in one line. A part to which digests are lent is the part that takes them itself.
 set -u
+# What stands last in a pipe runs in this shell, so that its complaints count.
+shopt -s lastpipe
 cd "$(dirname "$0")/.." || exit 1
 folder=$(mktemp -d)
 trap 'rm -rf "$folder"' EXIT
@@ -314,7 +316,7 @@ sed '1s/^/x/' "$folder/other/decisions.txt" | broken decisions.txt "line Number"
 sed '2s/^[0-9]* /1 /' "$folder/other/decisions.txt" | broken decisions.txt "event 1 behind a later one"
 sed '2s/^[0-9]* /2 /' "$folder/other/decisions.txt" | broken decisions.txt "event 2 doubled"
 sed '1s/p2=/p9=/' "$folder/other/decisions.txt" | broken decisions.txt "p9 isn't there"
-{ printf '%05000d ' 0; cat "$folder/other/decisions.txt"; } | broken decisions.txt "long line"
+{ printf '%0131072d ' 0; cat "$folder/other/decisions.txt"; } | broken decisions.txt "long line"
 head -c 24 "$folder/other/port2.pcap" | broken port2.pcap "p2 Missing"
 head -c -1 "$folder/other/port2.pcap" | broken port2.pcap "p2 Missing"
 cat "$folder/other/port2.pcap" <(tail -c +25 "$folder/other/port2.pcap") | broken port2.pcap "p2 LeftOver"

@@ -129,7 +129,7 @@ T
 cmp "$folder/out/decisions.txt" "$folder/plain/decisions.txt" || complain "the first of a kind changed the decisions"
 
 # Names that no event can have, refused before anything is touched.
-for name in foo 0 01 p0:1 p17:1 p1:0 u: x:1 drop drop: drop:0 drop:41 drop:99 drop:07 drop:Any mac: mac:zz mac:02:00:00:00:00 \
+for name in foo 0 01 p0:1 p256:1 p1:0 u: x:1 drop drop: drop:0 drop:41 drop:99 drop:07 drop:Any mac: mac:zz mac:02:00:00:00:00 \
     mac:02:00:00:00:00:01: 18446744073709551616; do
     tells 2 "error: no event can be called '$name': --why takes 7, p2:7, u:13, c:1, drop:30, drop:any or mac:02:00:00:00:00:01" \
         --why 8 --why "$name" </dev/null

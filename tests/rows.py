@@ -2,7 +2,8 @@
 
 A row is a name behind `==`, and a run told line by line; a line that begins with `#` belongs to none:
 - `A`, `B` and `L` stand for the settings of an endpoint, of its peer, and of a learning bridge alone; `A2` for those of the
-  endpoint in version 2, one of its segments with two tunnels; `T` for those of an endpoint that forgets;
+  endpoint in version 2, one of its segments with two tunnels; `T` for those of an endpoint that forgets; `ports16`,
+  `ports17` and `ports255` for those of a learning bridge of so many ports;
 - `~ OLD => NEW` puts NEW for OLD in the settings, a `;` in either being the end of a line;
 - `migrate` takes the settings as `tep migrate` writes them in version 2;
 - `c KEYS` is a change, with commas between its keys;
@@ -19,6 +20,7 @@ import sys
 import runs
 
 SETTINGS = {"A": runs.ENDPOINT, "A2": runs.TWO_TUNNELS, "B": runs.PEER, "L": runs.BRIDGE, "T": runs.FORGETFUL}
+SETTINGS |= {f"ports{ports}": runs.wide(ports) for ports in (16, 17, 255)}
 
 
 class Row:

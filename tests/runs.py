@@ -8,7 +8,9 @@ TOP = pathlib.Path(__file__).resolve().parent.parent
 
 PROGRAM = TOP / "crates/tep/out/tep"
 
-PORTS = "[[port]]\npvid = 10\n" * 3
+PORT = "[[port]]\npvid = 10\n"
+
+PORTS = PORT * 3
 
 
 def underlay(last):
@@ -52,6 +54,21 @@ untagged = [1, 2, 3]
 tagged = []
 flood = []
 """
+
+
+def wide(ports):
+    """A learning bridge of so many ports, five of which are members of its segment, without remotes."""
+    return f"""version = 3
+{underlay(1)}[limits]
+ports = {ports}
+{PORT * ports}[[segment]]
+vid = 10
+untagged = [3, 5, 6, 10, 14]
+[[segment.tunnel]]
+kind = "vxlan"
+vni = 5000
+"""
+
 
 # The endpoint in version 2, where VID 10 has a Geneve tunnel beside its VXLAN tunnel, each with a remote and a horizon group
 # of its own.

@@ -98,6 +98,22 @@ def third_version():
     for lines, limit, count, wanted in rows.MANY:
         tables = "".join(small.replace("#", str(k)).replace("@", str(limit)) for k in range(1, count + 1))
         expect_settings(head.replace("version = 3\n", "version = 3\n" + lines) + tables, wanted)
+    for lines, front, table, count, wanted in rows.TABLES_3:
+        tables = "".join(table.replace("#", str(k)) for k in range(1, count + 1))
+        text = rows.FEWEST_3.replace("version = 3\n", "version = 3\n" + lines)
+        expect_settings(text.replace(front, front + tables), wanted)
+    # The last of 4,096 next hops: to an address that an earlier one has, and without its own keys.
+    text = rows.FEWEST_3.replace("version = 3\n", "version = 3\n[limits]\nhops = 4096\n")
+    hops = "".join(rows.HOP_6.replace("#", str(k)) for k in range(1, 4096))
+    for last, wanted in ((rows.HOP_6.replace("#", "0001"), "addr"), (rows.HOP_6.replace("02:", "03:", 1), "mac")):
+        expect_settings(text.replace(rows.OWN, rows.OWN + hops + last.replace("#", "4096")), f"BadValue underlay.hop.4096.{wanted}")
+    text = rows.FEWEST_3.replace("version = 3\n", "version = 3\n[limits]\nports = 255\n").replace(rows.PORT, rows.PORT * 255)
+    for lines, wanted in rows.MEMBERS_3:
+        expect_settings(text.replace("# segment", lines), wanted)
+    # There is no port 255 where there are 254.
+    text = text.replace(rows.PORT * 2, rows.PORT, 1)
+    expect_settings(text.replace("# segment", "untagged = [254]"), "ok")
+    expect_settings(text.replace("# segment", "untagged = [255]"), "BadValue segment.1.untagged")
     # The last of 4,094 segments has the longest paths.
     text = head.replace("version = 3\n", "version = 3\n[limits]\nsegments = 4094\n")
     text += "".join(small.replace("#", str(k)).replace("@", "1") for k in range(1, 4095))

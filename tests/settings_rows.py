@@ -387,22 +387,37 @@ PARTS_3 = [
     ("version = 3", "version = 3\n[limits]\nsegments = 256.0", "BadValue limits.segments"),
     ("version = 3", 'version = 3\n[limits]\nsegments = "256"', "BadValue limits.segments"),
     ("version = 3", "version = 3\n[limits]\nsegment = 256", "BadValue limits.*"),
-    ("version = 3", "version = 3\n[limits]\nsegments = 0\nports = 16", "BadValue limits.*"),
-    ("version = 3", "version = 3\n[limits]\nentries = 1\naddresses = 262144", "ok"),
+    ("version = 3", "version = 3\n[limits]\nports = 0\nport = 16", "BadValue limits.*"),
+    ("version = 3", "version = 3\n[limits]\nports = 1", "ok"),
+    ("version = 3", "version = 3\n[limits]\nports = 255", "ok"),
+    ("version = 3", "version = 3\n[limits]\nports = 0", "BadValue limits.ports"),
+    ("version = 3", "version = 3\n[limits]\nports = 256", "BadValue limits.ports"),
+    ("version = 3", "version = 3\n[limits]\nports = -1", "BadValue limits.ports"),
+    ("version = 3", "version = 3\n[limits]\nports = 16.0", "BadValue limits.ports"),
+    ("version = 3", 'version = 3\n[limits]\nports = "16"', "BadValue limits.ports"),
+    ("version = 3", "version = 3\n[limits]\nhops = 1", "ok"),
+    ("version = 3", "version = 3\n[limits]\nhops = 4096", "ok"),
+    ("version = 3", "version = 3\n[limits]\nhops = 0", "BadValue limits.hops"),
+    ("version = 3", "version = 3\n[limits]\nhops = 4097", "BadValue limits.hops"),
+    ("version = 3", "version = 3\n[limits]\nhops = true", "BadValue limits.hops"),
+    ("version = 3", "version = 3\n[limits]\nhops = []", "BadValue limits.hops"),
+    ("version = 3", "version = 3\n[limits]\nentries = 1\naddresses = 1048576", "ok"),
     ("version = 3", "version = 3\n[limits]\nentries = 131072\naddresses = 256", "ok"),
     ("version = 3", "version = 3\n[limits]\nentries = 0", "BadValue limits.entries"),
     ("version = 3", "version = 3\n[limits]\nentries = 131073", "BadValue limits.entries"),
     ("version = 3", "version = 3\n[limits]\nentries = true", "BadValue limits.entries"),
     ("version = 3", "version = 3\n[limits]\naddresses = 0", "BadValue limits.addresses"),
-    ("version = 3", "version = 3\n[limits]\naddresses = 262145", "BadValue limits.addresses"),
+    ("version = 3", "version = 3\n[limits]\naddresses = 1048577", "BadValue limits.addresses"),
     ("version = 3", "version = 3\n[limits]\naddresses = [1]", "BadValue limits.addresses"),
-    # In this order: segments, entries, addresses.
+    # In this order: ports, segments, hops, entries, addresses.
     ("version = 3", "version = 3\n[limits]\naddresses = 0\nentries = 0", "BadValue limits.entries"),
-    ("version = 3", "version = 3\n[limits]\nentries = 0\nsegments = 0", "BadValue limits.segments"),
+    ("version = 3", "version = 3\n[limits]\nentries = 0\nhops = 0", "BadValue limits.hops"),
+    ("version = 3", "version = 3\n[limits]\nhops = 0\nsegments = 0", "BadValue limits.segments"),
+    ("version = 3", "version = 3\n[limits]\nsegments = 0\nports = 0", "BadValue limits.ports"),
     # A limit, within the most entries of a segment; where none is given it is 256, or the most.
     ("# segment", "limit = 8192", "ok"),
     ("# segment", "limit = 8193", "BadValue segment.1.limit"),
-    ("version = 3", "version = 3\n[limits]\naddresses = 262144", "ok"),
+    ("version = 3", "version = 3\n[limits]\naddresses = 1048576", "ok"),
     ("version = 3", "version = 3\n[limits]\naddresses = 255", "OverLimit limit"),
     ("version = 3", "version = 3\n[limits]\nentries = 255\naddresses = 255", "ok"),
     ("version = 3", "version = 3\n[limits]\nentries = 255\naddresses = 254", "OverLimit limit"),
@@ -410,11 +425,12 @@ PARTS_3 = [
     ("version = 3", "version = 3\npool = 65536", "ok"),
     ("version = 3", "version = 3\npool = 65537", "BadValue pool"),
     ("version = 3", "version = 3\npool = 65537\n[limits]\naddresses = 65537", "ok"),
-    ("version = 3", "version = 3\npool = 262144\n[limits]\naddresses = 262144", "ok"),
-    ("version = 3", "version = 3\npool = 262145\n[limits]\naddresses = 262144", "BadValue pool"),
+    ("version = 3", "version = 3\npool = 1048576\n[limits]\naddresses = 1048576", "ok"),
+    ("version = 3", "version = 3\npool = 1048577\n[limits]\naddresses = 1048576", "BadValue pool"),
     ("version = 3", "version = 3\npool = 65536\n[limits]\naddresses = 65535", "BadValue pool"),
     ("version = 3", "version = 3\npool = 65537\nlimits = 1", "BadValue limits"),
-    ("version = 3", "version = 3\npool = 262145\nlimits = 1", "BadValue pool"),
+    ("version = 3", "version = 3\npool = 1048576\nlimits = 1", "BadValue limits"),
+    ("version = 3", "version = 3\npool = 1048577\nlimits = 1", "BadValue pool"),
     ("version = 3", "version = 2\npool = 65537", "BadValue pool"),
     ("version = 3", "version = 3\nlimits = 256", "BadValue limits"),
     ("version = 3", "version = 3\n[[limits]]\nsegments = 256", "BadValue limits"),
@@ -424,6 +440,8 @@ PARTS_3 = [
     # Where the version isn't 3 there is no such key, and no other one is like it.
     ("version = 3", "version = 2\n[limits]", "BadValue *"),
     ("version = 3", "version = 1\nlimits = { segments = 256 }", "BadValue *"),
+    ("version = 3", "version = 2\n[limits]\nports = 16", "BadValue *"),
+    ("version = 3", "version = 1\nlimits = { hops = 64 }", "BadValue *"),
     ("version = 3", "version = 4\n[limits]", "BadValue *"),
     ("version = 3", "version = 3.0\n[limits]", "BadValue *"),
     ("version = 3", 'version = "3"\n[limits]', "BadValue *"),
@@ -474,11 +492,67 @@ MANY = [
     # The most of one segment is not that of all.
     ("[limits]\nentries = 131072\naddresses = 262144\n", 131072, 2, "ok"),
     ("[limits]\nentries = 131072\naddresses = 262144\n", 131072, 3, "OverLimit limit"),
-    ("[limits]\nentries = 131072\naddresses = 262144\n", 131073, 1, "BadValue segment.1.limit"),
-    ("[limits]\naddresses = 262144\n", 8193, 1, "BadValue segment.1.limit"),
+    ("[limits]\nentries = 131072\naddresses = 1048576\n", 131072, 8, "ok"),
+    ("[limits]\nentries = 131072\naddresses = 1048576\n", 131072, 9, "OverLimit limit"),
+    ("[limits]\nentries = 131072\naddresses = 1048576\n", 131073, 1, "BadValue segment.1.limit"),
+    ("[limits]\naddresses = 1048576\n", 8193, 1, "BadValue segment.1.limit"),
     ("[limits]\nentries = 256\n", 257, 1, "BadValue segment.1.limit"),
     ("[limits]\nentries = 131072\n", 65536, 1, "ok"),
     ("[limits]\nentries = 131072\n", 65537, 1, "OverLimit limit"),
+]
+
+# A port.
+PORT = "[[port]]\npvid = 10\n"
+
+# A next hop, to an address of the number `#`.
+HOP_6 = """[[underlay.hop]]
+addr = "2001:db8::#"
+mac = "02:00:00:00:00:01"
+"""
+
+# Lines behind the version 3; the key or table behind which a table is put, the table, how often it stands there, each time with its
+# number for `#`, and the fault. There is a port already.
+TABLES_3 = [
+    ("", PORT, PORT, 15, "ok"),
+    ("", PORT, PORT, 16, "OverLimit port"),
+    ("[limits]\n", PORT, PORT, 16, "OverLimit port"),
+    ("[limits]\nsegments = 4094\nhops = 4096\n", PORT, PORT, 16, "OverLimit port"),
+    ("[limits]\nports = 17\n", PORT, PORT, 16, "ok"),
+    ("[limits]\nports = 17\n", PORT, PORT, 17, "OverLimit port"),
+    ("[limits]\nports = 1\n", PORT, PORT, 0, "ok"),
+    ("[limits]\nports = 1\n", PORT, PORT, 1, "OverLimit port"),
+    ("[limits]\nports = 255\n", PORT, PORT, 254, "ok"),
+    ("[limits]\nports = 255\n", PORT, PORT, 255, "OverLimit port"),
+    # Its items aren't looked at.
+    ("[limits]\nports = 2\n", PORT, "[[port]]\n", 2, "OverLimit port"),
+    # The last of 255 ports, and the last of 4,096 next hops.
+    ("[limits]\nports = 255\n", PORT, PORT * 253 + "[[port]]\npvid = 0\n", 1, "BadValue port.255.pvid"),
+    ("[limits]\nports = 255\n", PORT, PORT * 253 + "[[port]]\npvid = 10\nspeed = 1\n", 1, "BadValue port.255.*"),
+    ("", OWN, HOP_6, 64, "ok"),
+    ("", OWN, HOP_6, 65, "OverLimit underlay.hop"),
+    ("[limits]\nports = 255\nsegments = 4094\n", OWN, HOP_6, 65, "OverLimit underlay.hop"),
+    ("[limits]\nhops = 65\n", OWN, HOP_6, 65, "ok"),
+    ("[limits]\nhops = 65\n", OWN, HOP_6, 66, "OverLimit underlay.hop"),
+    ("[limits]\nhops = 1\n", OWN, HOP_6, 1, "ok"),
+    ("[limits]\nhops = 1\n", OWN, HOP_6, 2, "OverLimit underlay.hop"),
+    ("[limits]\nhops = 4096\n", OWN, HOP_6, 4096, "ok"),
+    ("[limits]\nhops = 4096\n", OWN, HOP_6, 4097, "OverLimit underlay.hop"),
+    ("[limits]\nhops = 2\n", OWN, "[[underlay.hop]]\n", 3, "OverLimit underlay.hop"),
+]
+
+# Lines of the one segment where there are 255 ports, and the fault that they are.
+MEMBERS_3 = [
+    ("untagged = [255]", "ok"),
+    ("untagged = [256]", "BadValue segment.1.untagged"),
+    ("tagged = [256]", "BadValue segment.1.tagged"),
+    ("untagged = [0]", "BadValue segment.1.untagged"),
+    ("untagged = [255, 1, 255]", "BadValue segment.1.untagged"),
+    ("untagged = [17]\ntagged = [16, 17]", "BadValue segment.1.tagged"),
+    (f"untagged = {list(range(1, 256))}", "ok"),
+    (f"tagged = {list(range(255, 0, -1))}", "ok"),
+    (f"untagged = {list(range(1, 129))}\ntagged = {list(range(129, 256))}", "ok"),
+    (f"untagged = {list(range(1, 129))}\ntagged = {list(range(128, 256))}", "BadValue segment.1.tagged"),
+    (f"untagged = {list(range(1, 257))}", "BadValue segment.1.untagged"),
 ]
 
 # Keys of a second table of tunnels, and the fault that they are. The first table floods to as many as are told.
@@ -946,7 +1020,23 @@ TOLD_SETTINGS = [
     ),
     (
         "version = 3\n[limits]\nsegment = 300\n",
-        "S:3:1: BadValue limits.*\n  found: segment\n  did you mean: segments\n  keys: segments entries addresses\n",
+        "S:3:1: BadValue limits.*\n  found: segment\n  did you mean: segments\n  keys: ports segments hops entries addresses\n",
+    ),
+    (
+        "version = 3\n[limits]\nport = 17\n",
+        "S:3:1: BadValue limits.*\n  found: port\n  did you mean: ports\n  keys: ports segments hops entries addresses\n",
+    ),
+    (
+        "version = 3\n[limits]\nports = 256\n",
+        "S:3:1: BadValue limits.ports\n  found: 256\n  allowed: a number, 1 to 255\n",
+    ),
+    (
+        "version = 3\n[limits]\nhops = 4097\n",
+        "S:3:1: BadValue limits.hops\n  found: 4097\n  allowed: a number, 1 to 4096\n",
+    ),
+    (
+        "version = 3\n[limits]\naddresses = 1048577\n",
+        "S:3:1: BadValue limits.addresses\n  found: 1048577\n  allowed: a number, 1 to 1048576\n",
     ),
     (
         "version = 3\n[limits]\nsegments = 5000\n",
@@ -960,7 +1050,7 @@ TOLD_SETTINGS = [
     (
         "version = 3\npool = 65537\n",
         "S:2:1: BadValue pool\n  found: 65537\n  allowed: a number, 1 to 65536, or to limits.addresses where it is given;"
-        " limits.addresses raises it, up to 262144\n",
+        " limits.addresses raises it, up to 1048576\n",
     ),
     (
         "version = 2\npool = 65537\n",
@@ -975,6 +1065,30 @@ TOLD_SETTINGS = [
         FEWEST_2.replace("# segment", "limit = 8193"),
         "S:10:1: BadValue segment.1.limit\n  found: 8193\n"
         "  allowed: a number, 1 to 8192; version 3 with limits.entries raises it\n",
+    ),
+    # A port more than there may be.
+    (
+        FEWEST_2.split("[[port]]")[0].replace("version = 2", "version = 3\n[limits]\nports = 2") + "[[port]]\n" * 3,
+        "S:8:1: OverLimit port\n  found: [[port]]\n"
+        "  allowed: 1 to 16 tables, or to limits.ports where it is given, each headed [[port]];"
+        " limits.ports raises it, up to 255\n",
+    ),
+    (
+        FEWEST_2.split("[[port]]")[0] + "[[port]]\n" * 17,
+        "S:6:1: OverLimit port\n  found: [[port]]\n"
+        "  allowed: 1 to 16 tables, each headed [[port]]; version 3 with limits.ports raises it\n",
+    ),
+    # A next hop more than there may be.
+    (
+        FEWEST_2.split("[[port]]")[0].replace("version = 2", "version = 3\n[limits]\nhops = 1") + "[[underlay.hop]]\n" * 2,
+        "S:8:1: OverLimit underlay.hop\n  found: [[underlay.hop]]\n"
+        "  allowed: at most 64 tables with addr and mac, or as many as limits.hops says where it is given, each headed"
+        " [[underlay.hop]]; limits.hops raises it, up to 4096\n",
+    ),
+    (
+        FEWEST_2.split("[[port]]")[0] + "[[underlay.hop]]\n" * 65,
+        "S:6:1: OverLimit underlay.hop\n  found: [[underlay.hop]]\n"
+        "  allowed: at most 64 tables with addr and mac, each headed [[underlay.hop]]; version 3 with limits.hops raises it\n",
     ),
     # A segment more than there may be.
     (
@@ -1001,7 +1115,7 @@ TOLD_SETTINGS = [
     (
         FEWEST_2.split("[[segment]]")[0].replace("version = 2", "version = 3\n[limits]\naddresses = 511") + TWO_OF_256,
         "S: OverLimit limit\n  allowed: the limits of all segments sum to 65536 at most, or to limits.addresses where it is"
-        " given; limits.addresses raises it, up to 262144\n",
+        " given; limits.addresses raises it, up to 1048576\n",
     ),
     (
         FEWEST_2.split("[[segment]]")[0] + NINE_OF_8192,

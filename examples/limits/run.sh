@@ -1,9 +1,12 @@
 #!/usr/bin/env bash
-# Runs the endpoint with as much of everything as there may be: 16 ports, 256 segments of 16 remotes and 256 addresses,
-# 10,000 changes, 100,000 records in one capture, a record of 262,144 octets. What it has to decide is worked out beside
-# the captures, in Python.
+# Runs the endpoint with as much of everything as there may be. What it has to decide is worked out beside the captures, in
+# Python.
 #
 #     examples/limits/run.sh [FOLDER]    keeps all files in FOLDER
+#
+# With settings of version 1: 16 ports, 256 segments of 16 remotes and 256 addresses, 10,000 changes, 100,000 records in one
+# capture, a record of 262,144 octets. With settings of version 3: 255 ports, 4,094 segments, 4,096 next hops and a pool of
+# 1,048,576 addresses, which fills up.
 set -u
 cd "$(dirname "$0")/../.." || exit 1
 folder=${1:-$(mktemp -d)}
@@ -14,11 +17,21 @@ fail() {
     exit 1
 }
 
-mkdir -p "$folder/in" "$folder/out"
-python3 examples/limits/make.py "$folder/in" || fail "no captures"
-said=$(./tep check --settings "$folder/in/settings.toml" --changes "$folder/in/changes.toml")
-[ "$said" = "ok: 16 ports, 256 segments, 10000 changes" ] || fail "a look at the texts says '$said'"
-./tep run --settings "$folder/in/settings.toml" --changes "$folder/in/changes.toml" \
-    --underlay "$folder/in/underlay.pcap" --out "$folder/out" "$folder"/in/port{1..16}.pcap || fail "the run was refused"
-cmp "$folder/in/decisions.txt" "$folder/out/decisions.txt" || fail "other decisions"
-python3 examples/limits/make.py read "$folder/in" "$folder/out" || fail "other captures"
+# runs SCRIPT PORTS SAID WORDS..: the run on what the script writes decides what it says, with these words besides; a look at the
+# texts says this
+runs() {
+    local script=examples/limits/$1 in=$folder/${1%.py}/in out=$folder/${1%.py}/out last=$2 told=$3 said captures=() port
+    shift 3
+    mkdir -p "$in" "$out"
+    python3 "$script" "$in" || fail "no captures"
+    said=$(./tep check --settings "$in/settings.toml" "${@/#FOLDER/$in}")
+    [ "$said" = "$told" ] || fail "a look at the texts says '$said'"
+    for ((port = 1; port <= last; port++)); do captures+=("$in/port$port.pcap"); done
+    ./tep run --settings "$in/settings.toml" "${@/#FOLDER/$in}" --underlay "$in/underlay.pcap" --out "$out" "${captures[@]}" ||
+        fail "the run was refused"
+    cmp "$in/decisions.txt" "$out/decisions.txt" || fail "other decisions"
+    python3 "$script" read "$in" "$out" || fail "other captures"
+}
+
+runs make.py 16 "ok: 16 ports, 256 segments, 10000 changes" --changes FOLDER/changes.toml
+runs most.py 255 "ok: 255 ports, 4094 segments, 0 changes"

@@ -66,6 +66,9 @@ fn ask<R: AllocGlobal + Print>(
     if port == 0 || port > endpoint.ports() {
         return Ok(println!(rt; "no port {port}")?);
     }
+    if !endpoint.has_few_outlets() {
+        return Ok(println!(rt; "more outlets than a decision has room for")?);
+    }
     let decision = endpoint.frame(now, port, 60, octets);
     let text = result_text(rt.alloc(), &decision)?;
     let text = String::from_utf8(text)?;

@@ -45,7 +45,7 @@ impl BothWays {
         ensures { IfOk result (λ both. both ≡ fresh within underlay.now) }
     {
         Ok(BothWays {
-            underlay: copied(underlay)?,
+            underlay: copied(alloc, underlay)?,
             window: Window::new(alloc, within)?,
             left_out: [0; PLACES],
         })
@@ -124,7 +124,7 @@ fn is_met_first(window: &mut Window, place: u8, moment: u64, frame: FrameText) -
     } }
 {
     let record = Record {
-        place: u16::from(place),
+        place,
         moment,
         addresses: frame.front,
         rest: frame.rest,
@@ -141,7 +141,7 @@ fn count(counts: &mut [u64; PLACES], place: u8)
 }
 
 /// The settings of the underlay, but for the exceptions from the next hop: those say nothing of what comes in.
-fn copied(underlay: &Underlay) -> Result<Underlay, AllocError>
+fn copied(alloc: Global, underlay: &Underlay) -> Result<Underlay, AllocError>
     ensures { IfOk result (λ copy. copy ≡ record underlay.now { hops = empty }) }
 {
     Ok(Underlay {
@@ -158,7 +158,7 @@ fn copied(underlay: &Underlay) -> Result<Underlay, AllocError>
         zero6: underlay.zero6,
         partial: underlay.partial,
         known: underlay.known.clone()?,
-        hops: Hops::new(),
+        hops: Hops::new(alloc),
         limits: underlay.limits,
     })
 }

@@ -104,15 +104,15 @@ fn put_outcomes(
     requires there { IsSome (segment_at (state_of endpoint.now).bridges.settings came.now.vid) }
     requires short { length came.now.frame.body ≤ 65549 }
     requires leave { IsTrue (list_all (can_leave (state_of endpoint.now).bridges.settings came.now.vid) places.now) }
-    requires few { length places.now ≤ 32 }
-    requires room { length line.old + 2464 ≤ 4096 }
+    requires few { length places.now ≤ 767 }
+    requires room { length line.old + 59059 ≤ 65536 }
     ensures sent { let S = (state_of endpoint.now).bridges.settings in
         OnOk result (seen outputs.new
         ≡ with_all_sent moment (seen outputs.old) (map (sent_at S came.now.vid came.now.frame) places.now)) }
     ensures text { let S = (state_of endpoint.now).bridges.settings in OnOk result
         (line.new ≡ line.old
         ++ outcomes_text (has_two_tunnels S.overlay came.now.vid) (map (sent_at S came.now.vid came.now.frame) places.now)) }
-    ensures len { OnOk result (length line.new ≤ length line.old + 2464) }
+    ensures len { OnOk result (length line.new ≤ length line.old + 59059) }
 {
     let two_tunnels = endpoint.has_two_tunnels(came);
     let mut is_first = true;

@@ -61,7 +61,7 @@ impl Line {
     /// Puts a counted number in decimal digits at the end.
     #[inline]
     pub(crate) fn put_counter(&mut self, counter: &Counter)
-        requires room { length self.old + 20 ≤ 4096 }
+        requires room { length self.old + 20 ≤ 65536 }
         ensures text { self.new ≡ self.old ++ decimal counter.now }
         ensures len { length self.new ≤ length self.old + 20 }
     {

@@ -24,7 +24,7 @@ impl Line {
     /// Ends the line.
     #[inline(always)]
     pub fn end(&mut self)
-        requires room { length self.old < 4096 }
+        requires room { length self.old < 65536 }
         ensures { self.new ≡ self.old ++ 10 ∷ [] }
     {
         self.put_octet(b'\n');
@@ -48,7 +48,7 @@ impl Line {
     /// Puts where an event comes from.
     #[inline(always)]
     fn put_source(&mut self, source: Source)
-        requires room { length self.old + 4 ≤ 4096 }
+        requires room { length self.old + 4 ≤ 65536 }
         ensures text { self.new ≡ self.old ++ source_word source }
         ensures len { length self.new ≤ length self.old + 4 }
     {
@@ -61,7 +61,7 @@ impl Line {
     /// Puts where a capture is taken.
     #[inline(always)]
     pub(crate) fn put_tap(&mut self, tap: Tap)
-        requires room { length self.old + 4 ≤ 4096 }
+        requires room { length self.old + 4 ≤ 65536 }
         ensures text { self.new ≡ self.old ++ tap_word tap }
         ensures len { length self.new ≤ length self.old + 4 }
     {
@@ -77,7 +77,7 @@ impl Line {
     /// Puts the VID of a segment, or a dash for none, between spaces.
     #[inline(always)]
     fn put_segment(&mut self, segment: Option<Vid>)
-        requires room { length self.old + 7 ≤ 4096 }
+        requires room { length self.old + 7 ≤ 65536 }
         ensures text { self.new ≡ self.old ++ (codes " " ++ (segment_text segment ++ codes " ")) }
         ensures len { length self.new ≤ length self.old + 7 }
     {

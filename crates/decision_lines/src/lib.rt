@@ -9,7 +9,7 @@
 //! Proved: each call appends or writes exactly the stated text, the front, an outcome, a drop, a reply, a cut, and whole lines.
 //! Any line fits the buffer, so no call asks for memory or fails. A counter's digits are its number's.
 //!
-//! Why it is so: the buffer has 4,096 octets and is cleared for each event. The longest line has 2,539, so every room is proved
+//! Why it is so: the buffer has 65,536 octets and is cleared for each event. The longest line has 59,134, so every room is proved
 //! from its parts and writing a line can't fail. The number of the run's event is kept in its digits: one more mostly changes
 //! one octet. What a step needs (places, head, line) is made once for a run and lent.
 #![tactic(auto)]
@@ -18,6 +18,7 @@ mod counter;
 mod desk;
 mod front;
 mod line;
+mod most;
 mod outcome;
 mod place;
 mod whole;
@@ -25,3 +26,4 @@ mod whole;
 pub use counter::Counter;
 pub use desk::Desk;
 pub use line::Line;
+pub use most::most_of_a_line;

@@ -22,15 +22,15 @@ static PAIRS: [[u8; 2]; 100] = [
     *b"96", *b"97", *b"98", *b"99",
 ];
 
-/// A line in a buffer of 4,096 octets, seen by contracts as its text. It is cleared and written again, and never asks for
+/// A line in a buffer of 65,536 octets, seen by contracts as its text. It is cleared and written again, and never asks for
 /// memory. Each call reads the length before it writes octets and not behind that: the compiler doesn't know that no octet is
 /// written over the length.
 ///
-/// The longest decision line has 2,539 octets at most: a front of 74, 32 outcomes of 77 each with its space, and the end of
+/// The longest decision line has 59,134 octets at most: a front of 74, 767 outcomes of 77 each with its space, and the end of
 /// the line. So each call has its room where a line is begun first and has no more outcomes than there are outlets.
 #[derive(Drop)]
 pub struct Line {
-    octets: [u8; 4096],
+    octets: [u8; 65536],
     len: usize,
 }
 
@@ -39,7 +39,7 @@ impl Model for Line {
 
     ghost view = { λ l. take l.len l.octets };
 
-    ghost invariant = { λ l. l.len ≤ 4096 };
+    ghost invariant = { λ l. l.len ≤ 65536 };
 }
 
 impl Line {
@@ -48,7 +48,7 @@ impl Line {
         ensures { result ≡ [] }
     {
         Line {
-            octets: [0; 4096],
+            octets: [0; 65536],
             len: 0,
         }
     }
@@ -65,7 +65,7 @@ impl Line {
     #[inline]
     pub fn text(&self) -> &[u8]
         ensures value { result.now ≡ self.now }
-        ensures short { length self.now ≤ 4096 }
+        ensures short { length self.now ≤ 65536 }
     {
         &self.octets[..self.len]
     }
@@ -73,7 +73,7 @@ impl Line {
     /// Puts one octet at the end.
     #[inline]
     pub(crate) fn put_octet(&mut self, octet: u8)
-        requires room { length self.old < 4096 }
+        requires room { length self.old < 65536 }
         ensures text { self.new ≡ self.old ++ octet ∷ [] }
         ensures len { length self.new ≡ length self.old + 1 }
     {
@@ -85,7 +85,7 @@ impl Line {
     /// Puts a text at the end.
     #[inline]
     pub(crate) fn put_text(&mut self, text: &[u8])
-        requires room { length self.old + length text.now ≤ 4096 }
+        requires room { length self.old + length text.now ≤ 65536 }
         ensures text { self.new ≡ self.old ++ text.now }
         ensures len { length self.new ≡ length self.old + length text.now }
     {
@@ -97,7 +97,7 @@ impl Line {
     /// Puts a number in decimal digits at the end.
     #[inline(always)]
     pub(crate) fn put_number(&mut self, number: u64)
-        requires room { length self.old + 20 ≤ 4096 }
+        requires room { length self.old + 20 ≤ 65536 }
         ensures text { self.new ≡ self.old ++ decimal number }
         ensures len { length self.new ≤ length self.old + 20 }
     {
@@ -115,7 +115,7 @@ impl Line {
     #[inline(always)]
     fn put_long(&mut self, number: u64)
         requires long { 100000000 ≤ number }
-        requires room { length self.old + 20 ≤ 4096 }
+        requires room { length self.old + 20 ≤ 65536 }
         ensures text { self.new ≡ self.old ++ decimal number }
         ensures len { length self.new ≤ length self.old + 20 }
     {
@@ -134,7 +134,7 @@ impl Line {
     #[inline]
     fn put_four(&mut self, number: u16)
         requires four { number < 10000 }
-        requires room { length self.old + 4 ≤ 4096 }
+        requires room { length self.old + 4 ≤ 65536 }
         ensures text { self.new ≡ self.old ++ (48 + number / 1000)
             ∷ (48 + number / 100 % 10) ∷ (48 + number / 10 % 10) ∷ (48 + number % 10) ∷ [] }
         ensures len { length self.new ≡ length self.old + 4 }
@@ -146,7 +146,7 @@ impl Line {
     /// Puts a number below 65,536 in decimal digits at the end.
     #[inline(always)]
     pub(crate) fn put_short(&mut self, number: u16)
-        requires room { length self.old + 5 ≤ 4096 }
+        requires room { length self.old + 5 ≤ 65536 }
         ensures text { self.new ≡ self.old ++ decimal number }
         ensures len { length self.new ≤ length self.old + 5 }
     {
@@ -164,7 +164,7 @@ impl Line {
     /// Puts a number below 256 in decimal digits at the end.
     #[inline]
     pub(crate) fn put_small(&mut self, number: u8)
-        requires room { length self.old + 3 ≤ 4096 }
+        requires room { length self.old + 3 ≤ 65536 }
         ensures text { self.new ≡ self.old ++ decimal number }
         ensures len { length self.new ≤ length self.old + 3 }
         ensures two { number < 100 → length self.new ≤ length self.old + 2 }
@@ -183,7 +183,7 @@ impl Line {
     #[inline]
     fn put_pair(&mut self, number: u8)
         requires two { number < 100 }
-        requires room { length self.old + 2 ≤ 4096 }
+        requires room { length self.old + 2 ≤ 65536 }
         ensures text { self.new ≡ self.old ++ (48 + number / 10) ∷ (48 + number % 10) ∷ [] }
         ensures len { length self.new ≡ length self.old + 2 }
     {
@@ -196,7 +196,7 @@ impl Line {
     #[inline]
     fn put_digits(&mut self, number: u64, count: usize)
         requires count { count ≡ length (decimal number) }
-        requires room { length self.old + count ≤ 4096 }
+        requires room { length self.old + count ≤ 65536 }
         ensures text { self.new ≡ self.old ++ decimal number }
         ensures len { length self.new ≡ length self.old + count }
     {
@@ -208,7 +208,7 @@ impl Line {
     /// Puts the first octets of a short text that lies in a room of 20, which is copied whole.
     #[inline]
     pub(crate) fn put_first(&mut self, octets: &[u8; 20], count: usize)
-        requires room { length self.old + 20 ≤ 4096 }
+        requires room { length self.old + 20 ≤ 65536 }
         requires within { count ≤ 20 }
         ensures text { self.new ≡ self.old ++ take count octets.now }
         ensures len { length self.new ≡ length self.old + count }
@@ -221,7 +221,7 @@ impl Line {
     /// Puts an octet in two hexadecimal digits at the end.
     #[inline]
     pub(crate) fn put_hex(&mut self, octet: u8)
-        requires room { length self.old + 2 ≤ 4096 }
+        requires room { length self.old + 2 ≤ 65536 }
         ensures text { self.new ≡ self.old ++ hex_octet octet }
         ensures len { length self.new ≡ length self.old + 2 }
     {

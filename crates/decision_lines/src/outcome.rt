@@ -23,7 +23,7 @@ impl Line {
         place: Place,
         count: Result<usize, Reason>,
     )
-        requires room { length self.old + 77 ≤ 4096 }
+        requires room { length self.old + 77 ≤ 65536 }
         ensures text { self.new ≡ self.old ++ (gap is_first ++ (place_text two_tunnels place ++ count_text count)) }
         ensures len { length self.new ≤ length self.old + 77 }
     {
@@ -37,7 +37,7 @@ impl Line {
     /// The same of a local port where so many octets left.
     #[inline]
     pub fn put_local(&mut self, is_first: bool, port: u8, count: usize)
-        requires room { length self.old + 77 ≤ 4096 }
+        requires room { length self.old + 77 ≤ 65536 }
         ensures text { self.new ≡ self.old ++ (gap is_first ++ ((codes "p" ++ decimal port) ++ count_text (Ok count))) }
         ensures len { length self.new ≤ length self.old + 77 }
     {
@@ -59,7 +59,7 @@ impl Line {
         addr: Addr,
         count: Result<usize, Reason>,
     )
-        requires room { length self.old + 77 ≤ 4096 }
+        requires room { length self.old + 77 ≤ 65536 }
         ensures text { self.new ≡ self.old ++ (gap is_first ++ (place_text two_tunnels (Remote kind addr) ++ count_text count)) }
         ensures len { length self.new ≤ length self.old + 77 }
     {
@@ -72,7 +72,7 @@ impl Line {
 
     /// Puts that a frame or packet is dropped, and why.
     pub fn put_drop(&mut self, reason: Reason)
-        requires room { length self.old + 24 ≤ 4096 }
+        requires room { length self.old + 24 ≤ 65536 }
         ensures text { self.new ≡ self.old ++ (codes "drop " ++ decimal (number_of reason) ++ codes " " ++ name_of reason) }
         ensures len { length self.new ≤ length self.old + 24 }
     {
@@ -84,7 +84,7 @@ impl Line {
 
     /// Puts what a change was answered.
     pub fn put_reply(&mut self, reply: Result<(), ChangeFault>)
-        requires room { length self.old + 24 ≤ 4096 }
+        requires room { length self.old + 24 ≤ 65536 }
         ensures text { self.new ≡ self.old ++ reply_text (fault_of reply) }
         ensures len { length self.new ≤ length self.old + 24 }
     {
@@ -101,7 +101,7 @@ impl Line {
 
     /// Puts how many octets were sent, or the name of the reason why none were.
     fn put_count(&mut self, count: Result<usize, Reason>)
-        requires room { length self.old + 21 ≤ 4096 }
+        requires room { length self.old + 21 ≤ 65536 }
         ensures text { self.new ≡ self.old ++ count_text count }
         ensures len { length self.new ≤ length self.old + 21 }
     {

@@ -11,7 +11,7 @@ impl Line {
     /// Puts a place: the number of a local port, or the address of a remote endpoint, behind the kind of its tunnel where
     /// the segment has two.
     pub(crate) fn put_place(&mut self, two_tunnels: bool, place: Place)
-        requires room { length self.old + 55 ≤ 4096 }
+        requires room { length self.old + 55 ≤ 65536 }
         ensures text { self.new ≡ self.old ++ place_text two_tunnels place }
         ensures len { length self.new ≤ length self.old + 55 }
     {
@@ -27,7 +27,7 @@ impl Line {
     /// Puts the address of a remote endpoint, behind the kind of its tunnel where the segment has two.
     #[inline(always)]
     pub(crate) fn put_remote_place(&mut self, two_tunnels: bool, kind: Tunnel, addr: Addr)
-        requires room { length self.old + 55 ≤ 4096 }
+        requires room { length self.old + 55 ≤ 65536 }
         ensures text { self.new ≡ self.old ++ place_text two_tunnels (Remote kind addr) }
         ensures len { length self.new ≤ length self.old + 55 }
     {
@@ -38,7 +38,7 @@ impl Line {
     }
 
     fn put_kind(&mut self, kind: Tunnel)
-        requires room { length self.old + 7 ≤ 4096 }
+        requires room { length self.old + 7 ≤ 65536 }
         ensures text { self.new ≡ self.old ++ kind_text kind }
         ensures len { length self.new ≤ length self.old + 7 }
     {
@@ -50,7 +50,7 @@ impl Line {
 
     /// Puts an address: four decimals, or eight groups of four hexadecimal digits.
     fn put_addr(&mut self, addr: Addr)
-        requires room { length self.old + 48 ≤ 4096 }
+        requires room { length self.old + 48 ≤ 65536 }
         ensures text { self.new ≡ self.old ++ addr_text addr }
         ensures len { length self.new ≤ length self.old + 48 }
     {
@@ -61,7 +61,7 @@ impl Line {
     }
 
     fn put_ip4(&mut self, octets: [u8; 4])
-        requires room { length self.old + 15 ≤ 4096 }
+        requires room { length self.old + 15 ≤ 65536 }
         ensures text { self.new ≡ self.old ++ ip4_text octets }
         ensures len { length self.new ≤ length self.old + 15 }
     {
@@ -75,7 +75,7 @@ impl Line {
     }
 
     fn put_ip6(&mut self, octets: &[u8])
-        requires room { length self.old + 3 * length octets.now ≤ 4096 }
+        requires room { length self.old + 3 * length octets.now ≤ 65536 }
         ensures text { self.new ≡ self.old ++ ip6_text octets.now }
         ensures len { length self.new ≤ length self.old + 3 * length octets.now }
     {
@@ -87,7 +87,7 @@ impl Line {
 
     /// Puts groups of two octets, each behind a colon.
     fn put_groups(&mut self, octets: &[u8])
-        requires room { length self.old + 3 * length octets.now ≤ 4096 }
+        requires room { length self.old + 3 * length octets.now ≤ 65536 }
         ensures text { self.new ≡ self.old ++ grouped octets.now }
         ensures len { length self.new ≤ length self.old + 3 * length octets.now }
     {
@@ -102,7 +102,7 @@ impl Line {
     /// Puts two octets, two hexadecimal digits each.
     #[inline]
     fn put_group(&mut self, a: u8, b: u8)
-        requires room { length self.old + 4 ≤ 4096 }
+        requires room { length self.old + 4 ≤ 65536 }
         ensures text { self.new ≡ self.old ++ (hex_octet a ++ hex_octet b) }
         ensures len { length self.new ≡ length self.old + 4 }
     {

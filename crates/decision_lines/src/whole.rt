@@ -66,7 +66,7 @@ impl Line {
         place: Place,
     )
         requires leave { IsTrue (can_leave (state_of endpoint.now).bridges.settings came.now.vid place) }
-        requires room { length self.old + 77 ≤ 4096 }
+        requires room { length self.old + 77 ≤ 65536 }
         ensures text { let S = (state_of endpoint.now).bridges.settings in
             self.new ≡ self.old ++ (gap is_first ++ outcome_text two_tunnels (sent_at S came.now.vid came.now.frame place)) }
         ensures len { length self.new ≤ length self.old + 77 }
@@ -79,12 +79,12 @@ impl Line {
     pub(crate) fn put_outcomes(&mut self, endpoint: &Endpoint, came: &Came, places: &[Place])
         requires there { IsSome (segment_at (state_of endpoint.now).bridges.settings came.now.vid) }
         requires leave { IsTrue (list_all (can_leave (state_of endpoint.now).bridges.settings came.now.vid) places.now) }
-        requires few { length places.now ≤ 32 }
-        requires room { length self.old + 2464 ≤ 4096 }
+        requires few { length places.now ≤ 767 }
+        requires room { length self.old + 59059 ≤ 65536 }
         ensures text { let S = (state_of endpoint.now).bridges.settings in
             self.new ≡ self.old
             ++ outcomes_text (has_two_tunnels S.overlay came.now.vid) (map (sent_at S came.now.vid came.now.frame) places.now) }
-        ensures len { length self.new ≤ length self.old + 2464 }
+        ensures len { length self.new ≤ length self.old + 59059 }
     {
         let two_tunnels = endpoint.has_two_tunnels(came);
         let mut is_first = true;

@@ -34,10 +34,10 @@ fits-told cs c h =
     (leb-true (length cs + 1) 4096 e.0, leb-true (octets_of cs + length c.frame) 4194304 e.1)
 
 -- a frame that a record is an echo of was met again at few places
-pub awaited-few : (within : ℕ) (r : Record) (c : Came) → is_echo_of within r c ≡ true → length c.echoed < 32
+pub awaited-few : (within : ℕ) (r : Record) (c : Came) → is_echo_of within r c ≡ true → length c.echoed < 255
 awaited-few within r c h =
     let outer = both_true (is_elsewhere r c && (is_soon within r c && is_awaited r c)) (is_same c.frame r.frame) h in
     let inner = both_true (is_elsewhere r c) (is_soon within r c && is_awaited r c) outer.0 in
     let last = both_true (is_soon within r c) (is_awaited r c) inner.1 in
-    let few = both_true (nat_lt (length c.echoed) 32) (not (list_any (λ place. nat_eq place r.place) c.echoed)) last.1 in
-    ltb-true (length c.echoed) 32 few.0
+    let few = both_true (nat_lt (length c.echoed) 255) (not (list_any (λ place. nat_eq place r.place) c.echoed)) last.1 in
+    ltb-true (length c.echoed) 255 few.0

@@ -32,9 +32,9 @@ is_elsewhere r c = not (nat_eq c.place r.place)
 abbrev pub is_soon : ℕ → Record → Came → Bool
 is_soon within r c = nat_le c.moment r.moment && nat_le r.moment (c.moment + within)
 
--- the frame wasn't met again at that place yet, and at fewer than 32
+-- the frame wasn't met again at that place yet, and at fewer than 255: there are so many beside its own
 abbrev pub is_awaited : Record → Came → Bool
-is_awaited r c = nat_lt (length c.echoed) 32 && not (list_any (λ place. nat_eq place r.place) c.echoed)
+is_awaited r c = nat_lt (length c.echoed) 255 && not (list_any (λ place. nat_eq place r.place) c.echoed)
 
 -- a record is an echo of a frame that came in: at another place, soon after, for the first time there, and octet for octet
 abbrev pub is_echo_of : ℕ → Record → Came → Bool

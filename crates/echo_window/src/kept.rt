@@ -7,14 +7,14 @@ ghost use Rattle.echo_window.specs.Laid.{came_of, told};
 use crate::record::{Record, length_of};
 use arrayvec::ArrayVec;
 
-/// At how many places a frame is met again at most: as many as it is sent to at most.
-const MOST_ECHOES: usize = 32;
+/// At how many places a frame is met again at most: as many as there are beside its own.
+const MOST_ECHOES: usize = 255;
 
 /// A frame that came in, but for its octets, which stand elsewhere.
 #[derive(Drop)]
 pub(crate) struct Kept {
     /// Where it came in.
-    pub(crate) place: u16,
+    pub(crate) place: u8,
     /// Nanoseconds.
     pub(crate) moment: u64,
     /// How many octets came before its own.
@@ -24,7 +24,7 @@ pub(crate) struct Kept {
     /// The number of the frame before it in its bucket. It is kept where it is more than went.
     pub(crate) before: u64,
     /// Where it was met again.
-    pub(crate) echoed: ArrayVec<u16, MOST_ECHOES>,
+    pub(crate) echoed: ArrayVec<u8, MOST_ECHOES>,
 }
 
 impl Kept {
@@ -49,7 +49,8 @@ impl Kept {
     }
 
     /// Whether a record's place and moment are those of an echo.
-    fn awaits(&self, within: u64, met: &Record) -> bool
+    #[inline(always)]
+    pub(crate) fn awaits(&self, within: u64, met: &Record) -> bool
         ensures { let r = told met.now in let c = came_of self.now [] in
             result ≡ (is_elsewhere r c && (is_soon within r c && is_awaited r c)) }
     {

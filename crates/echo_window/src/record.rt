@@ -6,7 +6,7 @@ ghost use Rattle.echo_window.specs.Laid.{told};
 #[derive(Clone, Copy, Debug)]
 pub struct Record<'a> {
     /// Where it was captured: 0 for the underlay, and the number of a local port.
-    pub place: u16,
+    pub place: u8,
     /// Nanoseconds.
     pub moment: u64,
     /// The frame's octets before its VLAN tag. Where it has none: any of its first octets, or none.

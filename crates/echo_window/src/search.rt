@@ -47,7 +47,8 @@ fn if_echo(is_echo: bool, i: usize, found: Option<usize>) -> Option<usize>
     if is_echo { Some(i) } else { found }
 }
 
-/// Whether a record is an echo of the frame at an index.
+/// Whether a record is an echo of the frame at an index. Most are of the same place, which is seen before their octets are
+/// looked for.
 fn is_echo_at(
     frames: &VecDeque<Kept>,
     row: &Row,
@@ -62,6 +63,9 @@ fn is_echo_at(
     ensures { result ≡ is_echo_of within (told met.now) (slice_index_or (laid frames.now.items row.now) i (first_met (told met.now))) }
 {
     let kept = &frames[i];
+    if !kept.awaits(within, met) {
+        return false;
+    }
     let begin = (kept.at - index.passed) as usize;
     let (begun, ended) = row.part(begin, kept.length);
     kept.is_met_by(begun, ended, within, met)

@@ -61,7 +61,7 @@ impl Window {
 
     /// Takes the next record, and forgets what came in too early for an echo at its moment. Where it is an echo: the place where
     /// its frame came in.
-    pub fn meet(&mut self, met: &Record) -> Option<u16>
+    pub fn meet(&mut self, met: &Record) -> Option<u8>
         ensures answer { result ≡ echo_of self.old.within self.old.came (told met.now) }
         ensures came { self.new.came ≡ after self.old.within self.old.came (told met.now) }
         ensures within { self.new.within ≡ self.old.within }
@@ -72,7 +72,7 @@ impl Window {
 
     /// Takes the next record, where all frames that it may be an echo of are recent. Where it is an echo: the place where its
     /// frame came in.
-    fn meet_recent(&mut self, met: &Record) -> Option<u16>
+    fn meet_recent(&mut self, met: &Record) -> Option<u8>
         ensures answer { result ≡ echo_of self.old.within self.old.came (told met.now) }
         ensures came { self.new.came ≡ with_met self.old.within self.old.came (told met.now) }
         ensures within { self.new.within ≡ self.old.within }
@@ -123,9 +123,9 @@ impl Window {
     }
 
     /// Notes that a frame was met again at the place of a record. Where it came in is told.
-    fn mark(&mut self, i: usize, met: &Record) -> u16
+    fn mark(&mut self, i: usize, met: &Record) -> u8
         requires there { i < length self.old.came }
-        requires room { length (slice_index_or self.old.came i (first_met (told met.now))).echoed < 32 }
+        requires room { length (slice_index_or self.old.came i (first_met (told met.now))).echoed < 255 }
         ensures place { result ≡ (slice_index_or self.old.came i (first_met (told met.now))).place }
         ensures came { self.new ≡ record self.old { came = met_again (told met.now) self.old.came i } }
     {

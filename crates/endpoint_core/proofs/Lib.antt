@@ -1,5 +1,6 @@
 pub mod CellsLemmas
 pub mod CountsLemmas
+pub mod FewOutlets
 pub mod PartsLemmas
 pub mod Runs
 pub mod Tallies

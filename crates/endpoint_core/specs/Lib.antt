@@ -7,6 +7,7 @@ pub mod Course
 pub mod Decision
 pub mod Event
 pub mod Kept
+pub mod Outlets
 pub mod Run
 pub mod Step
 pub mod Text

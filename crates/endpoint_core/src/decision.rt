@@ -1,6 +1,7 @@
 //! What is decided of a frame or a packet.
 ghost use Rattle.std.specs.Prelude.{◌≡◌, ◌≤◌, [], length, map, All, IfOk, IsTrue, IsSome, Err};
 ghost use Rattle.std.specs.List.{list_all};
+ghost use Rattle.frame_view.specs.Tag.{IsVid};
 ghost use Rattle.frame_view.specs.declared.reason.Reason.TheVariants.{NoOutlet};
 ghost use Rattle.filter_db.specs.Place.{no_place};
 ghost use Rattle.endpoint_state.specs.Held.{settings_of};
@@ -99,7 +100,7 @@ impl<'a> Decision<'a> {
         requires there { IsThere (settings_of state.now) course.now }
         requires short { IsShortFrame course.now }
         requires leave { CanLeave (settings_of state.now) course.now places.now }
-        requires few { length places.now ≤ 32 }
+        requires few { IfOk course.now (λ x. IsVid x.vid → length places.now ≤ 32) }
         ensures octets { octets_of result ≡ decision_of (settings_of state.now) course.now places.now }
         ensures parts { result.outcomes ≡ outcomes_of (settings_of state.now) course.now places.now }
     {
@@ -125,7 +126,7 @@ impl<'a> Decision<'a> {
     /// A frame of a segment that leaves at these places.
     fn forwarded(state: &EndpointState, came: &Came<'a>, places: &[Place]) -> Decision<'a>
         requires there { IsSome (segment_at (settings_of state.now) came.now.vid) }
-        requires few { length places.now ≤ 32 }
+        requires few { IsVid came.now.vid → length places.now ≤ 32 }
         requires short { length came.now.frame.body ≤ 65549 }
         requires leave { IsTrue (list_all (can_leave (settings_of state.now) came.now.vid) places.now) }
         ensures octets { let S = settings_of state.now in let vid = came.now.vid in
@@ -133,6 +134,8 @@ impl<'a> Decision<'a> {
         ensures parts { let S = settings_of state.now in
             result.outcomes ≡ map (outcome_at S came.now.vid came.now.frame) places.now }
     {
+        // It tells that the VID is one.
+        let _ = came.vid.get();
         let mut outcomes = ArrayVec::new();
         for place in places {
             outcomes.push(Outcome::of(state, came, *place));

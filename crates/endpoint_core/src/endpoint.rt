@@ -17,6 +17,7 @@ use std::alloc::{AllocError, Global};
 use std::marker::Model;
 use underlay::Under;
 
+mod ahead;
 mod coming;
 mod decisions;
 mod leaving;
@@ -61,7 +62,7 @@ impl Endpoint {
         })
     }
 
-    /// The number of local ports, 16 at most.
+    /// The number of local ports, 255 at most.
     pub fn ports(&self) -> u8
         ensures { result ≡ length (state_of self.now).bridges.settings.ports.ports }
     {

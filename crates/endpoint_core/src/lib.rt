@@ -3,11 +3,14 @@
 //! Use first: an [`Endpoint`] is opened with settings. A local frame, an outer packet or a [`Change`] comes in at a moment
 //! that is handed in, and a frame or packet gets a [`Decision`]: why it goes nowhere, or an [`Outcome`] for each outlet, with
 //! the octets that leave there. A decision borrows the octets that came in, and not the endpoint. No step takes memory.
-//! [`Endpoint::foresee_frame`] and [`Endpoint::foresee_packet`] tell a decision without a step, [`result_text`] prints one,
-//! and [`Endpoint::entries`] lists the live entries of a segment.
+//! A decision has room for 32 outcomes; with settings of more outlets, as [`Endpoint::has_few_outlets`] tells them apart,
+//! [`Endpoint::take_frame`] and [`Endpoint::take_packet`] answer a [`Course`] and put the places into a list that is lent.
+//! [`Endpoint::foresee_frame`] and [`Endpoint::foresee_packet`] tell a decision without a step, and
+//! [`Endpoint::course_of_frame`] and [`Endpoint::course_of_packet`] a course. [`result_text`] prints a decision, and
+//! [`Endpoint::entries`] lists the live entries of a segment.
 //!
-//! Specs to read: `specs/Event`, `specs/Decision` and `specs/Step`, then `specs/Run`; `specs/Counts`, `specs/Text` for
-//! texts, and `specs/Work` for what an event costs of the tables at most.
+//! Specs to read: `specs/Event`, `specs/Decision` and `specs/Step`, then `specs/Run`; `specs/Counts`, `specs/Text` for texts,
+//! `specs/Outlets` for what a decision asks of the settings, and `specs/Work` for what an event costs of the tables at most.
 //!
 //! Proved: each step answers, octet for octet in each emission, what the definition answers of the endpoint's state and the
 //! event, and leaves the state that it says. From `open` on, over every list of events with moments that never fall, the

@@ -32,7 +32,8 @@ bridge-told t ports left before behind x dropped (Some s) c limit span entries f
 
 -- a port that is up and no member
 pub no-member : (port : ℕ) (up : Bool) (egress : Option Egress) → up ≡ true → egress ≡ None
-    → Some (facts.Member port None) ≡ (if not up then Some (facts.Port port false) else if is_none egress then Some (facts.Member port None) else None)
+    → Some (facts.NoMembers port port)
+    ≡ (if not up then Some (facts.PortsDown port port) else if is_none egress then Some (facts.NoMembers port port) else None)
 no-member port false egress is none = absurd (false≢true is)
 no-member port true None is none = refl
 no-member port true (Some e) is none = absurd (cc)

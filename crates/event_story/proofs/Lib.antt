@@ -1,2 +1,3 @@
 pub mod BridgeLemmas
+pub mod NeighbourLemmas
 pub mod StoryLemmas

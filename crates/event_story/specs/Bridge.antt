@@ -18,6 +18,7 @@ use Rattle.endpoint_state.specs.Settings.{SegmentSettings, segment_at}
 use Rattle.endpoint_state.specs.State.{State}
 use Rattle.endpoint_state.specs.Step.{after_frame, config_of}
 use Rattle.endpoint_core.specs.Came.{Came}
+use Rattle.event_story.specs.Neighbours.{folded}
 use Rattle.event_story.specs.declared.fact.Fact.{Fact}
 use Rattle.event_story.specs.declared.fact.Fact.TheVariants as facts
 
@@ -52,8 +53,8 @@ known_fact group stood = if group then facts.ToGroup else stood
 -- a port where no frame of the segment leaves
 abbrev pub shut_fact : Config → Place → Option Fact
 shut_fact c (Local port) =
-    if not (is_up_at c.up port) then Some (facts.Port port false)
-    else if is_none (get c.members port) then Some (facts.Member port None)
+    if not (is_up_at c.up port) then Some (facts.PortsDown port port)
+    else if is_none (get c.members port) then Some (facts.NoMembers port port)
     else None
 shut_fact c (Remote kind addr) = None
 
@@ -68,9 +69,21 @@ left_out c from to =
 abbrev pub places_of : Config → List Place
 places_of c = map Local (range_with_len 1 (length c.up)) ++ map place_of c.flood
 
--- those that a flood leaves out
+-- why a flood leaves out those of some places that it leaves out, one by one
+abbrev pub left_among : Config → Place → List Place → List Fact
+left_among c from places = flat_map (λ to. option_to_list (left_out c from to)) places
+
+-- the same of the ports
+abbrev pub left_ports : Config → Place → List Fact
+left_ports c from = left_among c from (map Local (range_with_len 1 (length c.up)))
+
+-- what is told of them: of more than 16 ports, those as one that follow each other and are left out for the same cause
+abbrev pub ports_told : Config → Place → List Fact
+ports_told c from = if nat_lt 16 (length c.up) then folded (left_ports c from) else left_ports c from
+
+-- what is told of all places that a flood leaves out
 abbrev pub left_facts : Config → Place → List Fact
-left_facts c from = flat_map (λ to. option_to_list (left_out c from to)) (places_of c)
+left_facts c from = ports_told c from ++ left_among c from (map place_of c.flood)
 
 -- the same of a frame, if it is flooded: to a group, or to an address for which nothing stands
 abbrev pub flooded_facts : Config → Place → Bool → Option Entry → List Fact

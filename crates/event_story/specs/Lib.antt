@@ -3,6 +3,7 @@ pub mod Carried
 pub mod Ether
 pub mod Line
 pub mod Local
+pub mod Neighbours
 pub mod Outlets
 pub mod Packet
 pub mod Story

@@ -2,7 +2,7 @@
 --       ether 02:00:00:00:00:01 > 02:00:00:00:00:02
 --       port p1 up
 --       source learned at p2, before at p1 seen at 5000000000
-use Rattle.std.specs.Prelude.{ℕ, if◌then◌else◌, List, [], ◌∷◌, ◌++◌, codes, decimal, Option, Some, None}
+use Rattle.std.specs.Prelude.{ℕ, ◌==◌, if◌then◌else◌, List, [], ◌∷◌, ◌++◌, codes, decimal, Option, Some, None}
 use Rattle.std.specs.List.{flat_map}
 use Rattle.frame_view.specs.Reason.{name_of}
 use Rattle.frame_view.specs.declared.reason.Reason.{Reason}
@@ -41,6 +41,10 @@ length_text packet mtu = codes ", packet " ++ decimal packet ++ codes " of at mo
 abbrev pub tunnel_port_text : Option Tunnel → List ℕ
 tunnel_port_text None = codes "port of no tunnel"
 tunnel_port_text (Some kind) = codes "port of " ++ tunnel_word kind
+
+-- the port of a number, or those from one number to another
+abbrev pub ports_text : ℕ → ℕ → List ℕ
+ports_text first last = if first == last then port_text first else codes "ports p" ++ decimal first ++ codes "-p" ++ decimal last
 
 -- ---- lines
 
@@ -95,6 +99,8 @@ words (facts.Dead stood since) =
 words (facts.Same place) = place_text place ++ codes " is where it came from"
 words (facts.Horizon place) = place_text place ++ codes " is of the sender's horizon group"
 words (facts.Shut place) = place_text place ++ codes " down, or no member"
+words (facts.PortsDown first last) = ports_text first last ++ codes " down"
+words (facts.NoMembers first last) = ports_text first last ++ codes " no member"
 words facts.Nobody = codes "nobody to flood to"
 words (facts.AtPort port egress) = codes "out p" ++ decimal port ++ egress_word egress
 words (facts.InTunnel kind addr vni hop packet mtu reason) =

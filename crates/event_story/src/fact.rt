@@ -181,6 +181,16 @@ pub enum Fact {
     Shut {
         place: Place,
     },
+    /// The local ports from the first to the last are down, and a flood leaves them out.
+    PortsDown {
+        first: u8,
+        last: u8,
+    },
+    /// No local port from the first to the last is a member of the segment, and a flood leaves them out.
+    NoMembers {
+        first: u8,
+        last: u8,
+    },
     /// There is nowhere to flood to.
     Nobody,
     /// How a frame leaves at a local port.

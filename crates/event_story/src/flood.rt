@@ -1,16 +1,19 @@
 //! Where a flood doesn't go.
-ghost use Rattle.std.specs.Prelude.{◌≡◌, ◌++◌, length, map, OnOk};
-ghost use Rattle.std.specs.List.{flat_map, range_with_len};
-ghost use Rattle.std.specs.Option.{option_to_list};
+ghost use Rattle.std.specs.Prelude.{◌≡◌, ◌++◌, map, OnOk};
 ghost use Rattle.filter_db.specs.declared.place.Place.TheVariants.{Local};
 ghost use Rattle.tunnel_learning.specs.Bridge.{config_of, place_of};
-ghost use Rattle.event_story.specs.Bridge.{flooded_facts, left_facts, left_out, shut_fact};
+ghost use Rattle.event_story.specs.Bridge.{flooded_facts, left_among, left_facts, left_out, left_ports, ports_told, shut_fact};
+ghost use Rattle.event_story.specs.Neighbours.{folded};
 
 use crate::fact::Fact;
+use crate::neighbours::put_closed;
 use crate::refusal::put;
 use filter_db::{Entry, Place};
 use std::alloc::AllocError;
 use tunnel_learning::Bridge;
+
+/// The most ports of a bridge whose ports are told one by one.
+const ONE_BY_ONE: u8 = 16;
 
 /// Puts where a flood of a frame from a place doesn't go, and why, behind some facts, if the frame is flooded: to a group, or
 /// to an address for which nothing stands. `AllocError`: there was no room for them.
@@ -37,11 +40,20 @@ fn put_left_facts(facts: &mut Vec<Fact>, bridge: &Bridge, from: Place) -> Result
     put_left_remotes(facts, bridge, from)
 }
 
-/// Puts the ports where it doesn't go.
+/// Puts the ports where it doesn't go: one by one, or of a bridge of more than 16 ports those as one that follow each other
+/// and are left out for the same cause.
 fn put_left_ports(facts: &mut Vec<Fact>, bridge: &Bridge, from: Place) -> Result<(), AllocError>
-    ensures { let c = config_of bridge.now in
-        OnOk result (facts.new.items
-        ≡ facts.old.items ++ flat_map (λ to. option_to_list (left_out c from to)) (map Local (range_with_len 1 (length c.up)))) }
+    ensures { OnOk result (facts.new.items ≡ facts.old.items ++ ports_told (config_of bridge.now) from) }
+{
+    if bridge.ports.ports() > ONE_BY_ONE {
+        return put_folded_ports(facts, bridge, from);
+    }
+    put_each_port(facts, bridge, from)
+}
+
+/// Puts the ports where it doesn't go, one by one.
+fn put_each_port(facts: &mut Vec<Fact>, bridge: &Bridge, from: Place) -> Result<(), AllocError>
+    ensures { OnOk result (facts.new.items ≡ facts.old.items ++ left_ports (config_of bridge.now) from) }
 {
     for number in 0..bridge.ports.ports() {
         put(facts, left_out(bridge, from, Place::Local(number + 1)))?;
@@ -49,11 +61,21 @@ fn put_left_ports(facts: &mut Vec<Fact>, bridge: &Bridge, from: Place) -> Result
     Ok(())
 }
 
+/// Puts the ports where it doesn't go, those as one that follow each other and are left out for the same cause.
+fn put_folded_ports(facts: &mut Vec<Fact>, bridge: &Bridge, from: Place) -> Result<(), AllocError>
+    ensures { OnOk result (facts.new.items ≡ facts.old.items ++ folded (left_ports (config_of bridge.now) from)) }
+{
+    let mut begun = None;
+    for number in 0..bridge.ports.ports() {
+        let next = left_out(bridge, from, Place::Local(number + 1));
+        begun = put_closed(facts, begun, next)?;
+    }
+    put(facts, begun)
+}
+
 /// Puts the remotes where it doesn't go.
 fn put_left_remotes(facts: &mut Vec<Fact>, bridge: &Bridge, from: Place) -> Result<(), AllocError>
-    ensures { let c = config_of bridge.now in
-        OnOk result (facts.new.items
-        ≡ facts.old.items ++ flat_map (λ to. option_to_list (left_out c from to)) (map place_of c.flood)) }
+    ensures { let c = config_of bridge.now in OnOk result (facts.new.items ≡ facts.old.items ++ left_among c from (map place_of c.flood)) }
 {
     for target in bridge.flood.targets() {
         let to = Place::Remote(target.tunnel, target.addr);
@@ -90,10 +112,16 @@ fn shut_port(bridge: &Bridge, port: u8) -> Option<Fact>
     ensures { result ≡ shut_fact (config_of bridge.now) (Local port) }
 {
     if !bridge.is_up(port) {
-        return Some(Fact::Port { port, up: false });
+        return Some(Fact::PortsDown {
+            first: port,
+            last: port,
+        });
     }
     match bridge.ports.egress(bridge.vid, port) {
         Some(_) => None,
-        None => Some(Fact::Member { port, egress: None }),
+        None => Some(Fact::NoMembers {
+            first: port,
+            last: port,
+        }),
     }
 }

@@ -5,12 +5,13 @@
 //! what the bridge of the segment knows of both addresses, and each outlet; and last the decision line. [`story_in_run`] does
 //! so of each event of a run, also of a change.
 //!
-//! Specs to read, in order: `specs/Story`, `specs/Tests`, `specs/Ether`, `specs/Local`, `specs/Packet`, `specs/Bridge`,
-//! `specs/Outlets`, `specs/Line`.
+//! Specs to read, in order: `specs/Story`, `specs/Tests`, `specs/Ether`, `specs/Local`, `specs/Packet`,
+//! `specs/Neighbours`, `specs/Bridge`, `specs/Outlets`, `specs/Line`.
 //!
 //! Proved: the text is exactly the stated function of the endpoint's state and the event: the facts of the tests in their order
 //! up to the one that refuses, of both addresses at the bridge, of the places that a flood leaves out, of each outlet, and last
-//! the decision line that the run writes. The endpoint stays as it is.
+//! the decision line that the run writes. Of more than 16 ports those that follow each other and are left out for the same cause
+//! are one fact. The endpoint stays as it is.
 //!
 //! Why it is so: a story is told from the state before the event, without a step. Where the bridge would send the frame is
 //! asked by the place of its destination (`EndpointState::foresee`), and what leaves there is measured and not made
@@ -25,6 +26,7 @@ mod flood;
 mod known;
 mod line;
 mod local;
+mod neighbours;
 mod outcomes;
 mod outlets;
 mod packet;

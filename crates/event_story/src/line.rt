@@ -5,8 +5,8 @@ ghost use Rattle.event_story.specs.Line.{words, fact_line, facts_text};
 use crate::fact::Fact;
 use crate::phrase::{
     put_accepts, put_at_port, put_both, put_dead, put_ether, put_full, put_header, put_in_tunnel,
-    put_ip, put_known, put_learned, put_no_vni, put_protocol, put_segment, put_short, put_tag,
-    put_tunnel_port, put_vni,
+    put_ip, put_known, put_learned, put_no_vni, put_ports, put_protocol, put_segment, put_short,
+    put_tag, put_tunnel_port, put_vni,
 };
 use filter_db::Place;
 use std::alloc::AllocError;
@@ -121,6 +121,8 @@ fn put_words(text: &mut String, fact: Fact) -> Result<(), AllocError>
             put_behind_place(text, place, " is of the sender's horizon group")
         }
         Fact::Shut { place } => put_behind_place(text, place, " down, or no member"),
+        Fact::PortsDown { first, last } => put_ports(text, first, last, " down"),
+        Fact::NoMembers { first, last } => put_ports(text, first, last, " no member"),
         Fact::Nobody => text.push_str("nobody to flood to"),
         Fact::AtPort { port, egress } => put_at_port(text, port, egress),
         Fact::InTunnel {

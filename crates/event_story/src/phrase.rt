@@ -2,7 +2,7 @@
 ghost use Rattle.std.specs.Prelude.{◌≡◌, ◌++◌, if◌then◌else◌, OnOk, codes, decimal, string_bytes};
 ghost use Rattle.endpoint_core.specs.Text.{addr_text};
 ghost use Rattle.story_words.specs.Words.{mac_text, place_text, port_text, tunnel_word, origin_word, egress_word, stood_text};
-ghost use Rattle.event_story.specs.Line.{unsent_text, length_text, learned_text, known_text, tunnel_port_text};
+ghost use Rattle.event_story.specs.Line.{unsent_text, length_text, learned_text, known_text, ports_text, tunnel_port_text};
 
 use endpoint_core::put_addr;
 use filter_db::{Entry, Place};
@@ -96,6 +96,21 @@ pub(crate) fn put_ip(text: &mut String, source: Addr, destination: Addr) -> Resu
     put_addr(text, source)?;
     text.push_str(" > ")?;
     put_addr(text, destination)
+}
+
+/// Puts a port, or those from one number to another, before a text.
+pub(crate) fn put_ports(
+    text: &mut String,
+    first: u8,
+    last: u8,
+    behind: &str,
+) -> Result<(), AllocError>
+    ensures { OnOk result (string_bytes text.new ≡ string_bytes text.old ++ (ports_text first last ++ behind.now)) }
+{
+    if first == last {
+        return write!(text, "port p{first}{behind}");
+    }
+    write!(text, "ports p{first}-p{last}{behind}")
 }
 
 pub(crate) fn put_tunnel_port(text: &mut String, kind: Option<Tunnel>) -> Result<(), AllocError>

@@ -1,6 +1,7 @@
 -- Where the first line of a text ends, whatever stands behind the text.
-use Rattle.std.proofs.Common.{◌≡◌, ◌≢◌, ℕ, zero, suc, Bool, true, false, ◌+◌, ◌<◌, List, [], ◌∷◌, ◌++◌, ◌==◌, length, length-take, take, drop, get_or, refl, sym, ap, ◌∙◌, arith, length-append}
-use Rattle.std.proofs.lemmas.Bool.{eq-eqb, ne_eqb, cond-true, cond-false}
+use Rattle.std.proofs.Common.{◌≡◌, ◌≢◌, ℕ, zero, suc, Bool, true, false, ◌+◌, ◌<◌, ◌≤◌, List, [], ◌∷◌, ◌++◌, ◌==◌, length, length-take, take, drop, get_or, refl, sym, ap, ◌∙◌, arith, length-append, inl, inr}
+use Rattle.std.proofs.lemmas.Bool.{cases_lt, eq-eqb, ne_eqb, cond-true, cond-false}
+use Rattle.std.proofs.lemmas.List.{get_or-take}
 use Rattle.line_stream.specs.Filled.{EndsAt, HasNoEnd}
 use Rattle.line_stream.specs.Lines.{behind_line, first_line, has_line}
 
@@ -27,6 +28,32 @@ behind_at (c ∷ cs) more zero inside here before = cond-true _ _ _ (eq-eqb c 10
 behind_at (c ∷ cs) more (suc i) inside here before =
     let next : suc i + 1 ≡ suc (i + 1) = omega arith in
     rw next (cond-false _ _ _ (ne_eqb c 10 (before 0 (omega arith))) ∙ behind_at cs more i (omega arith) here (λ k lt. before (suc k) (omega arith)))
+
+-- ---- a search that goes on where another ended
+
+pub none_in_nothing : HasNoEnd []
+none_in_nothing = record { none = λ k inside. absurd (omega (arith, inside)) }
+
+seen_none : (text : List ℕ) (seen k : ℕ) → HasNoEnd (take seen text) → k < seen → k < length text → get_or text k 0 ≢ 10
+seen_none text seen k none early inside is =
+    none.none k (omega (arith, length-take seen text, early, inside)) (get_or-take seen text k 0 early ∙ is)
+
+pub none_before : (text : List ℕ) (seen at : ℕ) → HasNoEnd (take seen text) → ((k : ℕ) → seen ≤ k → k < at → get_or text k 0 ≢ 10) → at < length text
+    → (k : ℕ) → k < at → get_or text k 0 ≢ 10
+none_before text seen at none between inside k early =
+    elim (cases_lt k seen) [
+      | inl low ↦ seen_none text seen k none low (omega (arith, early, inside))
+      | inr high ↦ between k high early
+    ]
+
+pub none_behind : (text : List ℕ) (seen : ℕ) → HasNoEnd (take seen text) → ((k : ℕ) → seen ≤ k → k < length text → get_or text k 0 ≢ 10) → HasNoEnd text
+none_behind text seen none from = record {
+  none = λ k inside.
+      elim (cases_lt k seen) [
+        | inl low ↦ seen_none text seen k none low inside
+        | inr high ↦ from k high inside
+      ];
+}
 
 -- ---- whether there is one
 

@@ -2,8 +2,8 @@
 use Rattle.std.proofs.Common.{◌≡◌, ◌≤◌, ◌+◌, ◌-◌, ◌∙◌, sym, ap, subst, ℕ, List, [], ◌++◌, length, length-append, length-drop, take, drop, append_assoc, append-nil, arith, Option, Some, None, IfSome, Err, false}
 use Rattle.std.proofs.lemmas.List.{drop-drop, drop-take, get_or_append_left, length-take-le, take-take}
 use Rattle.std.specs.Io.KnownBytes.{Consumes, IsAtEnd, Keeps, prepend_known}
-use Rattle.line_stream.specs.Filled.{EndsAt, HasNoEnd, IsLent, IsNext}
-use Rattle.line_stream.specs.Lines.{IsFetched, IsLong, Reader, behind_line, first_line, has_line}
+use Rattle.line_stream.specs.Filled.{EndsAt, HasNoEnd, IsFilled, IsLent, IsNext}
+use Rattle.line_stream.specs.Lines.{IsFetched, IsLong, Reader, behind_line, first_line, has_line, longest_line}
 use Rattle.line_stream.specs.declared.fault.LinesFault.{LinesFault}
 use Rattle.line_stream.specs.declared.fault.LinesFault.TheVariants.{Read, TooLong}
 use Rattle.line_stream.proofs.Ends.{behind_none, first_none, none_held}
@@ -38,7 +38,7 @@ ended (Some x) (Some ys) read room keeps end none rest = (
 )
 
 -- the room is full
-pub too_long : (w b : Option (List ℕ)) (room : List ℕ) → length room ≡ 4096 → Keeps w (prepend_known room b) → HasNoEnd room → IfSome w IsLong
+pub too_long : (w b : Option (List ℕ)) (room : List ℕ) → length room ≡ longest_line → Keeps w (prepend_known room b) → HasNoEnd room → IfSome w IsLong
 too_long None b room size keeps none = tt
 too_long (Some x) None room size keeps none = absurd keeps
 too_long (Some x) (Some ys) room size keeps none =
@@ -67,7 +67,13 @@ pub next_found : (left : Option (List ℕ)) (room : List ℕ) (end read n : ℕ)
 next_found left room end read n order inside ends =
     next_line_of left room end read n order inside (subst (λ (l : List ℕ). EndsAt l n) (sliced room end read order) ends)
 
--- a fault is told as it was
+-- a fault is told as it was, by who fills the room
+pub not_filled : (old : Option (List ℕ)) (failed : ℕ) (left : Option (List ℕ)) (failures : ℕ) (room : List ℕ) (fault : LinesFault)
+    → IsFilled old failed left failures room (Err fault) → IsLent old failed left failures room (Err fault)
+not_filled old failed left failures room TooLong h = h
+not_filled old failed left failures room Read h = h
+
+-- and by who fetches a line
 pub not_fetched : (old : Reader) (failures : ℕ) (left : Option (List ℕ)) (room : List ℕ) (fault : LinesFault) → IsLent old.rest old.failures left failures room (Err fault)
     → IsFetched old (record { line = []; ahead = []; rest = None; failures = failures }) (Err fault)
 not_fetched old failures left room TooLong h = h

@@ -2,11 +2,19 @@
 use Rattle.std.specs.Prelude.{◌≡◌, ◌≢◌, ◌<◌, ◌≤◌, ℕ, List, ◌++◌, length, take, drop, slice_index, Option, Some, IfSome, Result, Ok, Err}
 use Rattle.std.specs.Io.KnownBytes.{prepend_known}
 use Rattle.pcap_stream.specs.Counts.{GoesOnBy}
-use Rattle.line_stream.specs.Lines.{IsLong, behind_line, first_line}
+use Rattle.line_stream.specs.Lines.{IsLong, behind_line, first_line, longest_line}
 use Rattle.line_stream.specs.declared.fault.LinesFault.{LinesFault}
 use Rattle.line_stream.specs.declared.fault.LinesFault.TheVariants.{Read, TooLong}
 use Rattle.line_stream.specs.declared.fill.Ends.{Ends}
 use Rattle.line_stream.specs.declared.fill.Lent.{Lent}
+
+-- a line lies in the room, and behind it what else was read; enough is reserved for the longest line
+pub record LiesIn (room : List ℕ) (capacity : ℕ) (lent : Lent) : Type 0 where
+  pub reserved : longest_line ≤ capacity
+  pub size : length room ≤ longest_line
+  pub begin : lent.begin ≤ lent.end
+  pub end : lent.end ≤ lent.read
+  pub read : lent.read ≤ length room
 
 -- no line feed stands in it
 pub record HasNoEnd (text : List ℕ) : Type 0 where

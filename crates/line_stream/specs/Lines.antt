@@ -23,7 +23,7 @@ has_line (c ∷ cs) = if c == 10 then true else has_line cs
 
 -- the octets of a line at most
 abbrev pub longest_line : ℕ
-longest_line = 4096
+longest_line = 131072
 
 -- no line feed stands in the octets that a line has at most
 pub record IsLong (text : List ℕ) : Type 0 where

@@ -7,7 +7,7 @@ pub enum LinesFault {
     /// A read failed.
     #[error("Read")]
     Read,
-    /// The next 4,096 octets have no line feed.
+    /// The next 131,072 octets have no line feed.
     #[error("TooLong")]
     TooLong,
 }

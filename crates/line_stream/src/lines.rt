@@ -10,25 +10,28 @@ use std::alloc::{AllocError, Global};
 use std::marker::Model;
 
 /// The octets of a line at most.
-pub const LONGEST_LINE: usize = 4096;
+pub const LONGEST_LINE: usize = 131_072;
 
-/// The lines of an input, one at a time, in room for one of 4,096 octets.
+/// The lines of an input, one at a time, in room for one of 131,072 octets: it is reserved at once, and used as far as lines
+/// ask for it.
 ///
 /// `fetch` reads the next line, which `line` lends until the next `fetch`. Contracts see the line that is lent, what was read
 /// ahead of those behind it, what stands behind it, and how often the input failed.
 #[derive(Drop)]
 pub struct Lines<R: Input> {
     input: R,
-    /// Lines that were lent before, the line, and behind it what was read of the next ones.
+    /// Lines that were lent before, the line, and behind it what was read of the next ones. It is as long as a line asked for it
+    /// yet, within what is reserved.
     room: Vec<u8>,
     /// Where the line begins and ends, and where what was read ends.
     lent: Lent,
 }
 
 impl<R: Input> Model for Lines<R> {
-    ghost use Rattle.std.specs.Prelude.{◌≡◌, ◌≤◌, take, drop, length};
+    ghost use Rattle.std.specs.Prelude.{take, drop, vec_capacity};
     ghost use Rattle.std.specs.Io.KnownBytes.{prepend_known};
-    ghost use Rattle.line_stream.specs.Lines.{Reader, longest_line};
+    ghost use Rattle.line_stream.specs.Filled.{LiesIn};
+    ghost use Rattle.line_stream.specs.Lines.{Reader};
 
     ghost Value = { Reader };
 
@@ -39,18 +42,17 @@ impl<R: Input> Model for Lines<R> {
       failures = R.failures s.input;
     } };
 
-    ghost invariant = { λ s. (length s.room.items ≡ longest_line) × (s.lent.begin ≤ s.lent.end)
-        × (s.lent.end ≤ s.lent.read) × (s.lent.read ≤ longest_line) };
+    ghost invariant = { λ s. LiesIn s.room.items (vec_capacity s.room) s.lent };
 }
 
 impl<R: Input> Lines<R> {
-    /// Reserves room for a line, 4,096 octets, and reads nothing. No line is lent yet.
+    /// Reserves room for a line, 131,072 octets, and reads nothing. No line is lent yet.
     pub fn new(alloc: Global, input: R) -> Result<Lines<R>, AllocError>
     where
         R: Drop,
         ensures { IfOk result (λ lines. lines ≡ record { line = []; ahead = []; rest = R.remaining input; failures = R.failures input }) }
     {
-        let room = vec![in alloc; 0u8; LONGEST_LINE]?;
+        let room = Vec::with_capacity(alloc, LONGEST_LINE)?;
         Ok(Lines {
             input,
             room,
@@ -64,13 +66,13 @@ impl<R: Input> Lines<R> {
 
     /// Reads the next line: up to and with its line feed, or what is left of the input. At the end it is empty.
     ///
-    /// `TooLong`: the next 4,096 octets have no line feed. `Read`: a read failed. After a fault what is lent, and what comes
+    /// `TooLong`: the next 131,072 octets have no line feed. `Read`: a read failed. After a fault what is lent, and what comes
     /// then, isn't told. A line that was read ahead whole takes no read, and no fault comes then.
     pub fn fetch(&mut self) -> Result<(), LinesFault>
         ensures fetched { IsFetched self.old self.new result }
         ensures lacked { OnErr result (holds_line self.old ≡ false) }
     {
-        match next_line(&mut self.input, self.room.as_mut_slice(), self.lent) {
+        match next_line(&mut self.input, &mut self.room, self.lent) {
             Ok(lent) => {
                 self.lent = lent;
                 Ok(())

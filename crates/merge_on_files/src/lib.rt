@@ -6,7 +6,7 @@
 //!
 //! It has no specs of its own.
 //!
-//! Proved: each function is safe and ends. A merge has 16 ports at most. What a file, a pipe or a terminal holds isn't proved.
+//! Proved: each function is safe and ends. A merge has 255 ports at most. What a file, a pipe or a terminal holds isn't proved.
 //!
 //! Why it is so: a merge prints tables and counts, and writes none, as a whole run does: the folder of a merge and that of the
 //! run are the same. It takes no `--tables-at`: a moment would have to be the same in all parts, which no file tells.

@@ -7,22 +7,19 @@ use crate::opening::{may_wait, open_parts};
 use part_merge::{MergeFault, Target, merge_streams};
 use part_record::{MOST_PORTS, ToldOutputs};
 use program_faults::{Failure, OutputFile};
-use program_files::{FailedOutputs, drop_part, is_same, open_outputs, path_of};
+use program_files::{FailedOutputs, FoundFiles, drop_part, open_outputs, path_of, see_room};
 use std::alloc::AllocError;
-use std::fs::{self, Metadata};
-use std::os::unix::fs::FileTypeExt;
+use std::fs;
 use std::rt::Files;
 use timeline::Tap;
-
-/// How many octets of an output are written at once.
-const BLOCK: usize = 65_536;
 
 /// Puts the parts in these folders together, and writes the whole run into a folder. It answers what the whole run tells
 /// besides, as far as that is asked for.
 ///
-/// Where they aren't all parts of one run, what they told isn't there or is no such text, or an output is one of their files,
-/// nothing is made or written. All outputs that couldn't be written are noted. Where an output of a part is no regular file, all
-/// that was merged goes out before each read, which may wait.
+/// Where they aren't all parts of one run, what they told isn't there or is no such text, an output is one of their files, or
+/// more files would be open at once than the system lets be (of less than 200 that isn't tried), nothing is made or written. All
+/// outputs that couldn't be written are noted. Where an output of a part is no regular file, all that was merged goes out before
+/// each read, which may wait.
 ///
 /// Noticed before an output is made: a `shard.txt` that isn't written as one is; settings, changes or captures with another
 /// digest than those of the first part; a segment, or what comes to none, that isn't in exactly one part's list; and outputs
@@ -65,9 +62,11 @@ pub fn merge<'a, R: Files + AllocGlobal>(
         Ok(parts) => parts,
         Err(failure) => return Err(failure),
     };
+    let inputs = folders.len().saturating_mul(count.saturating_add(2));
+    see_room(rt, inputs, count, false)?;
     let opened = open_outputs(rt, out, false, count)?;
     drop_part(rt, out)?;
-    let mut outputs = opened.emptied(rt.alloc(), BLOCK)?;
+    let mut outputs = opened.emptied(rt.alloc())?;
     let merged = merge_streams(
         parts.as_mut_slice(),
         outputs.ports.as_mut_slice(),
@@ -104,7 +103,7 @@ fn merge_failure<'a, R: Files + AllocGlobal>(
 
 /// So many ports, or the most that a run has.
 fn at_most_ports(count: usize) -> usize
-    ensures { result ≤ 16 }
+    ensures { result ≤ 255 }
 {
     if count < MOST_PORTS {
         count
@@ -134,36 +133,31 @@ fn spare_parts<'a, R: Files + AllocGlobal>(
     folders: &[&'a str],
     count: usize,
 ) -> Result<(), Failure<'a>> {
+    let inputs = files_of_parts(rt, folders, count)?;
     for index in 0..count.saturating_add(BESIDE_PORTS) {
         let path = path_of(rt.alloc(), out, file_at(index, count))?;
-        if let Ok(found) = fs::metadata(rt, path.as_path()) {
-            if is_of_a_part(rt, folders, count, &found)? {
-                return Err(Failure::Write(file_at(index, count)));
-            }
+        match fs::metadata(rt, path.as_path()) {
+            Ok(found) if inputs.have(&found) => return Err(Failure::Write(file_at(index, count))),
+            _ => {}
         }
     }
     Ok(())
 }
 
-/// Whether this is a file of one of the parts. A device holds nothing.
-fn is_of_a_part<R: Files + AllocGlobal>(
+/// The files of the parts in these folders, of so many ports each.
+fn files_of_parts<R: Files + AllocGlobal>(
     rt: &R,
     folders: &[&str],
     count: usize,
-    found: &Metadata,
-) -> Result<bool, AllocError> {
-    if found.file_type().is_char_device() {
-        return Ok(false);
-    }
+) -> Result<FoundFiles, AllocError> {
+    let mut files = FoundFiles::none(rt.alloc());
     for folder in folders {
         for index in 0..count.saturating_add(BESIDE_PORTS) {
             let path = path_of(rt.alloc(), *folder, file_at(index, count))?;
-            if is_same(rt, path.as_path(), found) {
-                return Ok(true);
-            }
+            files.note(rt, path.as_path())?;
         }
     }
-    Ok(false)
+    Ok(files)
 }
 
 /// Why the program gives up where a merge does.

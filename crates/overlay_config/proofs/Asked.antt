@@ -49,7 +49,7 @@ known_same xs k ys (member l d ms) none =
     rw (any_but (pointwise nat_eq l) xs k ys (apart_back k l g.0), known_same xs k ys ms g.1) refl
 
 -- a key that isn't known isn't there
-unknown_gone : (keys : List (List ℕ)) (k : List ℕ) (ms : Members) → is_known keys k ≡ false → all_known keys ms ≡ true → get_member k ms ≡ None
+pub unknown_gone : (keys : List (List ℕ)) (k : List ℕ) (ms : Members) → is_known keys k ≡ false → all_known keys ms ≡ true → get_member k ms ≡ None
 unknown_gone keys k no_members unknown all = refl
 unknown_gone keys k (member l d ms) unknown all =
     let (here, more) = and_parts (is_known keys l) (all_known keys ms) all in
@@ -146,7 +146,7 @@ absent_limits Three ms none = ap limits_from none
 abbrev behind : Members → Version → Meaning Limits → Meaning Settings
 behind ms v m =
     given_pool_of (addresses_in m) (top ms) >>= λ given. m >>= λ limits. subtable (top ms) (codes "underlay") >>= λ below.
-    underlay_of v limits below >>= λ underlay. required_items (top ms) (codes "port") 16 >>= λ tables.
+    underlay_of v limits below >>= λ underlay. required_items (top ms) (codes "port") limits.ports >>= λ tables.
     each (λ earlier at. port_of at) (codes "port") [] tables >>= λ ports.
     segments_of v limits (own underlay) (length ports) (top ms) >>= λ segments. pool_for given segments >>= λ pool.
     Ok (record { underlay = underlay; ports = ports; segments = segments; pool = pool })
@@ -231,7 +231,7 @@ third_means ms s two e =
     bind_then (limits_of version (top ms)) _ s e1 (λ limits limits-is e2.
     bind_then (subtable (top ms) (codes "underlay")) _ s e2 (λ below below-is e3.
     bind_then (underlay_of version limits below) _ s e3 (λ underlay underlay-is e4.
-    bind_then (required_items (top ms) (codes "port") 16) _ s e4 (λ tables tables-is e5.
+    bind_then (required_items (top ms) (codes "port") limits.ports) _ s e4 (λ tables tables-is e5.
     bind_then (each (λ earlier at. port_of at) (codes "port") [] tables) _ s e5 (λ ports ports-is e6.
     bind_then (segments_of version limits (own underlay) (length ports) (top ms)) _ s e6 (λ segments segments-is e7.
     let is : version ≡ Two = ok_is version Two (sym version-is ∙ two) in
@@ -246,7 +246,7 @@ third_means ms s two e =
     (gives (limits_of Three new) _ limits s (same-limits ∙ limits-is)
     (gives (subtable new (codes "underlay")) _ below s (ap (subtable_from (codes "underlay")) (other (codes "underlay") refl) ∙ below-is)
     (gives (underlay_of Three limits below) _ underlay s (underlay_third limits below underlay underlay-two)
-    (gives (required_items new (codes "port") 16) _ tables s (ap (required_from (codes "port") 16) (other (codes "port") refl) ∙ tables-is)
+    (gives (required_items new (codes "port") limits.ports) _ tables s (ap (required_from (codes "port") limits.ports) (other (codes "port") refl) ∙ tables-is)
     (gives (each (λ earlier at. port_of at) (codes "port") [] tables) _ ports s ports-is
     (gives (segments_of Three limits (own underlay) (length ports) new) _ segments s
     (segments_same Three limits (own underlay) (length ports) (version_3 ms) ∙ ap (segments_from Three limits (own underlay) (length ports)) (other (codes "segment") refl)

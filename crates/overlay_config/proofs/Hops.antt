@@ -13,7 +13,7 @@ use Rattle.overlay_config.specs.Underlay.{with_exception, exceptions}
 use Rattle.overlay_settings.specs.Rules.{EachBehind, IsHop, AreHops}
 
 -- one more at most
-pub size : (hops : Exceptions) (octets mac : List ℕ) → len (insert hops octets mac) ≤ len hops + 1
+size : (hops : Exceptions) (octets mac : List ℕ) → len (insert hops octets mac) ≤ len hops + 1
 size hops octets mac = by (contains_key hops octets) (len-insert nat_list_cmp_total hops octets mac)
   where
     by : (b : Bool) → len (insert hops octets mac) ≡ cond b (len hops) (len hops + 1) → len (insert hops octets mac) ≤ len hops + 1

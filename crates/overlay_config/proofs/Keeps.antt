@@ -141,11 +141,12 @@ version_2_means ms s one e =
     bind_then (limits_of version (top ms)) _ s e1 (λ limits limits-is el.
     bind_then (subtable (top ms) (codes "underlay")) _ s el (λ below below-is e2.
     bind_then (underlay_of version limits below) _ s e2 (λ underlay underlay-is e3.
-    bind_then (required_items (top ms) (codes "port") 16) _ s e3 (λ tables tables-is e4.
+    bind_then (required_items (top ms) (codes "port") limits.ports) _ s e3 (λ tables tables-is e4.
     bind_then (each (λ earlier at. port_of at) (codes "port") [] tables) _ s e4 (λ ports ports-is e5.
     bind_then (segments_of version limits (own underlay) (length ports) (top ms)) _ s e5 (λ segments segments-is e6.
     let is : version ≡ One = ok_is version One (sym version-is ∙ one) in
     let usual : limits ≡ usual_limits = ok_is limits usual_limits (sym (subst (λ v. limits_of v (top ms) ≡ Ok limits) is limits-is)) in
+    let tables-usual : required_items (top ms) (codes "port") 16 ≡ Ok tables = subst (λ l. required_items (top ms) (codes "port") l.ports ≡ Ok tables) usual tables-is in
     let segments-one : segments_of One usual_limits (own underlay) (length ports) (top ms) ≡ Ok segments =
     subst (λ l. segments_of One l (own underlay) (length ports) (top ms) ≡ Ok segments) usual
     (subst (λ v. segments_of v limits (own underlay) (length ports) (top ms) ≡ Ok segments) is segments-is) in
@@ -156,7 +157,7 @@ version_2_means ms s one e =
     (gives (given_pool_of 65536 new) _ given s (ap (optional_value (codes "pool") (range 1 65536)) (top_key (codes "pool") ms refl refl) ∙ given-usual)
     (gives (subtable new (codes "underlay")) _ below s (ap (subtable_from (codes "underlay")) (top_key (codes "underlay") ms refl refl) ∙ below-is)
     (gives (underlay_of Two usual_limits below) _ underlay s (underlay_kept usual_limits below ∙ underlay-one)
-    (gives (required_items new (codes "port") 16) _ tables s (ap (required_from (codes "port") 16) (top_key (codes "port") ms refl refl) ∙ tables-is)
+    (gives (required_items new (codes "port") 16) _ tables s (ap (required_from (codes "port") 16) (top_key (codes "port") ms refl refl) ∙ tables-usual)
     (gives (each (λ earlier at. port_of at) (codes "port") [] tables) _ ports s ports-is
     (gives (segments_of Two usual_limits (own underlay) (length ports) new) _ segments s (segments_kept usual_limits (own underlay) (length ports) ms segments segments-one) e6))))))))))))))
 

@@ -10,4 +10,5 @@ mod SegmentKept
 mod Third
 mod Asked
 mod Versions
+mod PortsAsked
 mod Keeps

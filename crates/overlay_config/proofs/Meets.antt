@@ -150,14 +150,14 @@ hop_meets earlier at h e =
       required_meets IsIndividual individual_mac mac_meets at (codes "mac") mac mac-is,
     )))))
 
-hops_meet : (at : Place) (hops : Exceptions) → hops_of at ≡ Ok hops → (len hops ≤ 64) × AreHops hops
+hops_meet : (most : ℕ) (at : Place) (hops : Exceptions) → hops_of most at ≡ Ok hops → (len hops ≤ most) × AreHops hops
 unfolding hops_of
-hops_meet at hops e =
-    bind_then (limited_items at (codes "hop") 64) _ hops e (λ tables tables-is e0.
+hops_meet most at hops e =
+    bind_then (limited_items at (codes "hop") most) _ hops e (λ tables tables-is e0.
     bind_then (each hop_of (codes "underlay.hop") [] tables) _ hops e0 (λ rows rows-is e1.
     let a = from_none IsRow (length tables) rows (each_meets IsRow hop_of (codes "underlay.hop") hop_meets [] tables rows rows-is) in
-    let few = limited_items_ok at (codes "hop") 64 tables tables-is in
-    subst (λ m. (len m ≤ 64) × AreHops m) (ok_is (exceptions empty rows) hops e1)
+    let few = limited_items_ok at (codes "hop") most tables tables-is in
+    subst (λ m. (len m ≤ most) × AreHops m) (ok_is (exceptions empty rows) hops e1)
     (omega (arith, few, a.1, all_size empty rows, none_size), hops_are IsRow (λ earlier h is. is) rows a.0)))
 
 abbrev some_pair : ℕ → ℕ → ℕ × ℕ
@@ -194,35 +194,47 @@ default_mtu = (lit≤ tt, lit≤ tt)
 default_ttl : IsWithin 1 255 64
 default_ttl = (lit≤ tt, lit≤ tt)
 
+usual_ports : IsWithin 1 255 16
+usual_ports = (lit≤ tt, lit≤ tt)
+
 usual_segments : IsWithin 1 4094 256
 usual_segments = (lit≤ tt, lit≤ tt)
+
+usual_hops : IsWithin 1 4096 64
+usual_hops = (lit≤ tt, lit≤ tt)
 
 usual_entries : IsWithin 1 131072 8192
 usual_entries = (lit≤ tt, lit≤ tt)
 
-usual_addresses : IsWithin 1 262144 65536
+usual_addresses : IsWithin 1 1048576 65536
 usual_addresses = (lit≤ tt, lit≤ tt)
 
 record AreLimits (l : Limits) : Type 0 where
+  ports : IsWithin 1 255 l.ports
   segments : IsWithin 1 4094 l.segments
+  hops : IsWithin 1 4096 l.hops
   entries : IsWithin 1 131072 l.entries
-  addresses : IsWithin 1 262144 l.addresses
+  addresses : IsWithin 1 1048576 l.addresses
 
 usual_are : AreLimits usual_limits
-usual_are = record { segments = usual_segments; entries = usual_entries; addresses = usual_addresses }
+usual_are = record { ports = usual_ports; segments = usual_segments; hops = usual_hops; entries = usual_entries; addresses = usual_addresses }
 
 limits_in_meet : (at : Place) (l : Limits) → limits_in at ≡ Ok l → AreLimits l
 unfolding limits_in
 limits_in_meet at l e =
     bind_then (only at limit_keys) _ l e (λ known known-is e0.
-    bind_then (defaulted at (codes "segments") (range 1 4094) 256) _ l e0 (λ segments segments-is e1.
-    bind_then (defaulted at (codes "entries") (range 1 131072) 8192) _ l e1 (λ entries entries-is e2.
-    bind_then (defaulted at (codes "addresses") (range 1 262144) 65536) _ l e2 (λ addresses addresses-is e3.
-    subst AreLimits (ok_is _ l e3) (record {
+    bind_then (defaulted at (codes "ports") (range 1 255) 16) _ l e0 (λ ports ports-is e1.
+    bind_then (defaulted at (codes "segments") (range 1 4094) 256) _ l e1 (λ segments segments-is e2.
+    bind_then (defaulted at (codes "hops") (range 1 4096) 64) _ l e2 (λ hops hops-is e3.
+    bind_then (defaulted at (codes "entries") (range 1 131072) 8192) _ l e3 (λ entries entries-is e4.
+    bind_then (defaulted at (codes "addresses") (range 1 1048576) 65536) _ l e4 (λ addresses addresses-is e5.
+    subst AreLimits (ok_is _ l e5) (record {
+      ports = defaulted_range at (codes "ports") 1 255 16 ports usual_ports ports-is;
+      hops = defaulted_range at (codes "hops") 1 4096 64 hops usual_hops hops-is;
       segments = defaulted_range at (codes "segments") 1 4094 256 segments usual_segments segments-is;
       entries = defaulted_range at (codes "entries") 1 131072 8192 entries usual_entries entries-is;
-      addresses = defaulted_range at (codes "addresses") 1 262144 65536 addresses usual_addresses addresses-is;
-    })))))
+      addresses = defaulted_range at (codes "addresses") 1 1048576 65536 addresses usual_addresses addresses-is;
+    })))))))
 
 limits_meet : (version : Version) (at : Place) (l : Limits) → limits_of version at ≡ Ok l → AreLimits l
 limits_meet One at l e = subst AreLimits (ok_is usual_limits l e) usual_are
@@ -244,11 +256,11 @@ underlay_meets version limits at u are e =
     bind_then (defaulted at (codes "zero6") truth true) _ u e8 (λ zero6 zero6-is e9.
     bind_then (partial_of version at) _ u e9 (λ partial partial-is e10.
     bind_then (listed at (codes "known") 16 put_known []) _ u e10 (λ known known-is e11.
-    bind_then (hops_of at) _ u e11 (λ hops hops-is e12.
+    bind_then (hops_of limits.hops at) _ u e11 (λ hops hops-is e12.
     let o = own_meets at own own-is in
     let p = tunnel_ports_meet at ports ports-is in
     let k = listed_meets IsKnown put_known known_meets at (codes "known") 16 known known-is in
-    let h = hops_meet at hops hops-is in
+    let h = hops_meet limits.hops at hops hops-is in
     subst (λ (x : Underlay). IsUnderlay x × (limits ≡ x.limits)) (ok_is _ u e12) (
       record {
         mac = required_meets IsIndividual individual_mac mac_meets at (codes "mac") mac mac-is;
@@ -265,7 +277,9 @@ underlay_meets version limits at u are e =
         known = k.1;
         hop_count = h.0;
         hops = h.1;
+        port_limit = are.ports;
         limits = are.segments;
+        hop_limit = are.hops;
         entries = are.entries;
         addresses = are.addresses;
       },
@@ -424,20 +438,20 @@ settings_meet members s e =
     bind_then (limits_of version (top members)) _ s e0 (λ limits limits-is el.
     bind_then (subtable (top members) (codes "underlay")) _ s el (λ below below-is e1.
     bind_then (underlay_of version limits below) _ s e1 (λ underlay underlay-is e2.
-    bind_then (required_items (top members) (codes "port") 16) _ s e2 (λ tables tables-is e3.
+    bind_then (required_items (top members) (codes "port") limits.ports) _ s e2 (λ tables tables-is e3.
     bind_then (each (λ earlier at. port_of at) (codes "port") [] tables) _ s e3 (λ ports ports-is e4.
     bind_then (segments_of version limits (own underlay) (length ports) (top members)) _ s e4 (λ segments segments-is e5.
     bind_then (pool_for given segments) _ s e5 (λ pool pool-is e6.
     let are = limits_meet version (top members) limits limits-is in
     let u = underlay_meets version limits below underlay are underlay-is in
     let p = from_none IsPort (length tables) ports (each_meets IsPort (λ earlier at. port_of at) (codes "port") port_meets [] tables ports ports-is) in
-    let few = required_items_ok (top members) (codes "port") 16 tables tables-is in
+    let few = required_items_ok (top members) (codes "port") limits.ports tables tables-is in
     let q = segments_meet version limits are.entries.0 (own underlay) (length ports) (top members) segments segments-is in
     let below-most : IfSome given (IsWithin 1 limits.addresses) = subst (λ (m : Meaning Limits). IfSome given (IsWithin 1 (addresses_in m))) limits-is (given_meets _ (top members) given given-is) in
     let l = pool_meets limits.addresses given segments pool pool-is below-most (some_entries (own underlay) (length ports) segments q.0.0 q.1, q.3) in
     subst MeetsRules (ok_is _ s e6) (record {
       underlay = u.0;
-      port_count = subst (IsWithin 1 16) (sym p.1) few;
+      port_count = subst (λ (l : Limits). IsWithin 1 l.ports (length ports)) u.1 (subst (IsWithin 1 limits.ports) (sym p.1) few);
       ports = p.0;
       segment_count = subst (λ (l : Limits). IsWithin 1 l.segments (length segments)) u.1 q.0;
       segments = q.1;

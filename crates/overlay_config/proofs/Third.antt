@@ -38,7 +38,7 @@ text_more : {A : Type 0} (words more : List (List ℕ × A)) (o : Option (List �
 text_more words more None t h = h
 text_more words more (Some s) t h = word_more words more s t h
 
-fits_more : {A : Type 0} (p : List ℕ) (a b : Option A) (t : A) → ((x : A) → a ≡ Some x → b ≡ Some x) → fits p a ≡ Ok t → fits p b ≡ Ok t
+pub fits_more : {A : Type 0} (p : List ℕ) (a b : Option A) (t : A) → ((x : A) → a ≡ Some x → b ≡ Some x) → fits p a ≡ Ok t → fits p b ≡ Ok t
 fits_more p None b t more h = absurd cc
 fits_more p (Some x) b t more h = ap (fits p) (more x refl) ∙ h
 

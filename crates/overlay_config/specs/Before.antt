@@ -1,6 +1,6 @@
--- What settings meant before limits could be asked for: of each version at most 256 segments, at most 8,192 entries of each and
--- 65,536 of all, and no key `limits`. And what changes meant before they could have a version: at most 10,000, and no other key.
--- It states no standard.
+-- What settings meant before limits could be asked for: of each version at most 16 ports, 256 segments and 64 next hops, at most
+-- 8,192 entries of a segment and 65,536 of all, and no key `limits`. And what changes meant before they could have a version: at
+-- most 10,000, and no other key. It states no standard.
 use Rattle.std.specs.Prelude.{ℕ, nat_lt, List, [], ◌∷◌, length, Ok, codes}
 use Rattle.toml.specs.Data.{Members}
 use Rattle.flood_lists.specs.declared.own.Own.{Own}
@@ -44,7 +44,7 @@ settings_of members = do
   version ← version_of (top members)
   given ← given_pool_of 65536 (top members)
   below ← subtable (top members) (codes "underlay")
-  underlay ← underlay_of version (record { segments = 256; entries = 8192; addresses = 65536 }) below
+  underlay ← underlay_of version (record { ports = 16; segments = 256; hops = 64; entries = 8192; addresses = 65536 }) below
   tables ← required_items (top members) (codes "port") 16
   ports ← each (λ earlier at. port_of at) (codes "port") [] tables
   segments ← segments_of version (own underlay) (length ports) (top members)

@@ -13,4 +13,5 @@ pub mod Segment
 pub mod Settings
 pub mod Change
 pub mod Before
+pub mod BeforePorts
 pub mod Migrate

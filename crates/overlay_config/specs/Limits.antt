@@ -9,20 +9,22 @@ use Rattle.overlay_config.specs.declared.version.Version.TheVariants.{One, Two, 
 
 -- the limits where nothing else is asked for, which versions before the third always have
 abbrev pub usual_limits : Limits
-usual_limits = record { segments = 256; entries = 8192; addresses = 65536 }
+usual_limits = record { ports = 16; segments = 256; hops = 64; entries = 8192; addresses = 65536 }
 
 -- the keys of the table `limits`
 abbrev pub limit_keys : List (List ℕ)
-limit_keys = codes "segments" ∷ codes "entries" ∷ codes "addresses" ∷ []
+limit_keys = codes "ports" ∷ codes "segments" ∷ codes "hops" ∷ codes "entries" ∷ codes "addresses" ∷ []
 
 -- what the table means: a key that is absent stands for the usual limit
 unfoldable pub limits_in : Place → Meaning Limits
 limits_in at = do
   known ← only at limit_keys
+  ports ← defaulted at (codes "ports") (range 1 255) 16
   segments ← defaulted at (codes "segments") (range 1 4094) 256
+  hops ← defaulted at (codes "hops") (range 1 4096) 64
   entries ← defaulted at (codes "entries") (range 1 131072) 8192
-  addresses ← defaulted at (codes "addresses") (range 1 262144) 65536
-  Ok (record { segments = segments; entries = entries; addresses = addresses })
+  addresses ← defaulted at (codes "addresses") (range 1 1048576) 65536
+  Ok (record { ports = ports; segments = segments; hops = hops; entries = entries; addresses = addresses })
 
 -- the limits in force, from what stands at the top; an absent table counts as empty
 abbrev pub limits_of : Version → Place → Meaning Limits
@@ -33,4 +35,4 @@ limits_of Three top = subtable top (codes "limits") >>= limits_in
 -- the most addresses that the limits say, or the most that limits may say where they mean nothing
 abbrev pub addresses_in : Meaning Limits → ℕ
 addresses_in (Ok limits) = limits.addresses
-addresses_in (Err fault) = 262144
+addresses_in (Err fault) = 1048576

@@ -13,6 +13,6 @@ with_member other members port = if is_member members port || is_member other po
 abbrev pub put_member : ℕ → List ℕ → List ℕ → Data → Option (List ℕ)
 put_member ports other members d = option_and_then (with_member other members) (range 1 ports d)
 
--- numbers of ports, 1 to 16, none twice
+-- numbers of ports, 1 to 255, none twice
 abbrev pub ArePortNumbers : List ℕ → Type 0
-ArePortNumbers members = IsDistinct nat_eq members × ((port : ℕ) → IsTrue (is_member members port) → (1 ≤ port) × (port ≤ 16))
+ArePortNumbers members = IsDistinct nat_eq members × ((port : ℕ) → IsTrue (is_member members port) → (1 ≤ port) × (port ≤ 255))

@@ -64,7 +64,7 @@ settings_of members = do
   limits ← limits_of version (top members)
   below ← subtable (top members) (codes "underlay")
   underlay ← underlay_of version limits below
-  tables ← required_items (top members) (codes "port") 16
+  tables ← required_items (top members) (codes "port") limits.ports
   ports ← each (λ earlier at. port_of at) (codes "port") [] tables
   segments ← segments_of version limits (own underlay) (length ports) (top members)
   pool ← pool_for given segments

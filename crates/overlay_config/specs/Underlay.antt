@@ -91,10 +91,10 @@ abbrev pub exceptions : Exceptions → List (Addr × List ℕ) → Exceptions
 exceptions hops [] = hops
 exceptions hops (h ∷ hs) = exceptions (with_exception hops h) hs
 
--- what the exceptions of the underlay mean
-unfoldable pub hops_of : Place → Meaning Exceptions
-hops_of at = do
-  tables ← limited_items at (codes "hop") 64
+-- what the exceptions of the underlay mean, of which there are so many at most
+unfoldable pub hops_of : ℕ → Place → Meaning Exceptions
+hops_of most at = do
+  tables ← limited_items at (codes "hop") most
   hops ← each hop_of (codes "underlay.hop") [] tables
   Ok (exceptions empty hops)
 
@@ -113,7 +113,7 @@ underlay_of version limits at = do
   zero6 ← defaulted at (codes "zero6") truth true
   partial ← partial_of version at
   known ← listed at (codes "known") 16 put_known []
-  hops ← hops_of at
+  hops ← hops_of limits.hops at
   Ok (record {
     mac = mac;
     next_hop = next_hop;

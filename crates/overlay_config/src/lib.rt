@@ -6,12 +6,14 @@
 //! [`migrate`] writes settings of version 1 as version 2. What is read stands in `overlay_settings`, which knows no text.
 //!
 //! Specs to read: `specs/Settings` and `specs/Segment`, then the tables below them; `specs/Before`, what settings meant before
-//! there were limits, and changes before they had a version; `specs/Change`; `specs/Migrate`.
+//! there were limits, and changes before they had a version; `specs/BeforePorts`, what they meant before ports and next hops had
+//! limits to ask for; `specs/Change`; `specs/Migrate`.
 //!
 //! Proved: every text of settings or changes has one meaning, itself or its first fault with its key, and is read as exactly
 //! that, unless memory is refused. What a text means keeps to every rule (`laws::meanings`), and the moments of changes don't
 //! fall. Settings that aren't of version 3, and those that ask for no limits, mean what they meant before there were any
-//! (`laws::before_limits`), and settings of version 2 mean the same as version 3 (`laws::third_versions`). Changes that tell no
+//! (`laws::before_limits`); what settings of version 3 meant before ports and next hops had limits too, they mean
+//! (`laws::before_port_limits`); and settings of version 2 mean the same as version 3 (`laws::third_versions`). Changes that tell no
 //! version mean what they meant before they could, and the same in version 2 (`laws::unversioned_changes`). `migrate` answers
 //! a text that is read as the table of the old text in version 2 and means the same settings, or the fault of `settings_of`;
 //! what is migrated stays as it is when it's migrated again (`laws::migrations`).

@@ -4,20 +4,28 @@ ghost use Rattle.config_text.specs.Reader.{place_of};
 ghost use Rattle.overlay_config.specs.Limits.{addresses_in, limits_in, limits_of};
 
 use crate::version::Version;
-use config_text::{Reader, SettingsFault, U16Range, U32Range};
+use config_text::{Reader, SettingsFault, U8Range, U16Range, U32Range};
 use underlay::Limits;
 
-const KEYS: [&str; 3] = ["segments", "entries", "addresses"];
+const KEYS: [&str; 5] = ["ports", "segments", "hops", "entries", "addresses"];
 
 /// The limits where nothing else is asked for, which versions before the third always have.
 const USUAL: Limits = Limits {
+    ports: 16,
     segments: 256,
+    hops: 64,
     entries: 8192,
     addresses: 65536,
 };
 
+/// The most ports, whose numbers are octets from 1 on.
+const PORTS: U8Range = U8Range { low: 1, high: 255 };
+
 /// The most segments, one for each VID.
 const SEGMENTS: U16Range = U16Range { low: 1, high: 4094 };
+
+/// The most next hops to single endpoints.
+const HOPS: U16Range = U16Range { low: 1, high: 4096 };
 
 /// The most entries of a segment's table.
 const ENTRIES: U32Range = U32Range {
@@ -28,7 +36,7 @@ const ENTRIES: U32Range = U32Range {
 /// The most entries of all tables together.
 const ADDRESSES: U32Range = U32Range {
     low: 1,
-    high: 262_144,
+    high: 1_048_576,
 };
 
 /// The table of the limits.
@@ -36,13 +44,18 @@ const ADDRESSES: U32Range = U32Range {
 fn read_table(at: &Reader) -> Result<Limits, SettingsFault>
     ensures value { result ≡ limits_in (place_of at.now) }
     ensures most { IfOk result (λ l. l.segments ≤ 4094) }
+    ensures ports { IfOk result (λ l. l.ports ≤ 255) }
 {
     at.only(&KEYS)?;
+    let ports = at.defaulted("ports", &PORTS, USUAL.ports)?;
     let segments = at.defaulted("segments", &SEGMENTS, USUAL.segments)?;
+    let hops = at.defaulted("hops", &HOPS, USUAL.hops)?;
     let entries = at.defaulted("entries", &ENTRIES, USUAL.entries)?;
     let addresses = at.defaulted("addresses", &ADDRESSES, USUAL.addresses)?;
     Ok(Limits {
+        ports,
         segments,
+        hops,
         entries,
         addresses,
     })
@@ -63,6 +76,7 @@ pub(crate) fn read_limits(version: Version, top: &Reader) -> Result<Limits, Sett
     requires { length (place_of top.now).prefix ≤ 15 }
     ensures value { result ≡ limits_of version (place_of top.now) }
     ensures most { IfOk result (λ l. l.segments ≤ 4094) }
+    ensures ports { IfOk result (λ l. l.ports ≤ 255) }
 {
     match version {
         Version::One | Version::Two => Ok(USUAL),

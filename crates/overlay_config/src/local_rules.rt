@@ -55,8 +55,7 @@ impl LocalRules {
 /// The ports on a list of members that stand neither on it twice nor on the other list.
 #[tactic(auto, unfolding(crate::specs::LocalRules::members_of))]
 fn read_members(at: &Reader, key: &str, ports: u8, other: &[u8]) -> Result<PortList, SettingsFault>
-    requires short { length key.now ≤ 11 }
-    requires few { ports ≤ 16 }
+    requires { length key.now ≤ 11 }
     ensures { result ≡ members_of (place_of at.now) key.now ports other.now }
 {
     let column = MemberPorts { ports, other };
@@ -74,7 +73,7 @@ fn usual_limit(entries: u32) -> u32
 }
 
 /// The keys from `limit` to `tagged`, of version 3 or of another one, for segments of so many entries at most and so many
-/// ports, which are 16 at most.
+/// ports.
 #[tactic(auto, unfolding(crate::specs::LocalRules::local_of))]
 pub(crate) fn read_local(
     at: &Reader,
@@ -82,7 +81,6 @@ pub(crate) fn read_local(
     entries: u32,
     ports: u8,
 ) -> Result<LocalRules, SettingsFault>
-    requires { ports ≤ 16 }
     ensures { result ≡ local_of third entries ports (place_of at.now) }
 {
     let limits = U32Range {

@@ -1,5 +1,4 @@
 //! The lists of a segment's member ports.
-ghost use Rattle.std.specs.Prelude.{◌≤◌};
 ghost use Rattle.overlay_config.specs.Members.{put_member};
 
 use config_text::{Column, ListColumn, U8Range};
@@ -7,7 +6,7 @@ use std::marker::Model;
 use toml::Value;
 use vlan_ports::PortList;
 
-/// Numbers of ports, 1 to 16, none of them twice; seen by contracts as their list.
+/// Numbers of ports, 1 to 255, none of them twice; seen by contracts as their list.
 #[derive(Drop)]
 pub(crate) struct MemberList {
     ports: PortList,
@@ -38,11 +37,10 @@ impl MemberList {
         }
     }
 
-    /// With one more port, of 16 at most, that isn't on the list.
+    /// With one more port that isn't on the list.
     #[tactic(auto, using(crate::proofs::Numbers::has_room))]
     fn with(self, port: u8) -> MemberList
         requires low { 1 ≤ port }
-        requires high { port ≤ 16 }
         requires new { IsFalse (is_member self port) }
         ensures { result ≡ self ++ port ∷ [] }
     {
@@ -72,7 +70,6 @@ pub(crate) struct MemberPorts<'a> {
     /// How many ports there are.
     pub(crate) ports: u8,
     pub(crate) other: &'a [u8],
-    ghost few: { ports ≤ 16 },
 }
 
 impl MemberPorts<'_> {

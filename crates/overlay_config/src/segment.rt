@@ -36,8 +36,7 @@ fn read_rules(
     ports: u8,
     at: &Reader,
 ) -> Result<(TunnelRules, LocalRules), SettingsFault>
-    requires few { ports ≤ 16 }
-    requires short { length (place_of at.now).prefix ≤ 13 }
+    requires { length (place_of at.now).prefix ≤ 13 }
     ensures { result ≡ rules_of version own entries ports (place_of at.now) }
 {
     match version {
@@ -60,8 +59,7 @@ fn read_tables(
     ports: u8,
     at: &Reader,
 ) -> Result<(TunnelRules, LocalRules), SettingsFault>
-    requires few { ports ≤ 16 }
-    requires short { length (place_of at.now).prefix ≤ 13 }
+    requires { length (place_of at.now).prefix ≤ 13 }
     ensures { result ≡ tables_of third own entries ports (place_of at.now) }
 {
     let tunnels = read_tunnels(at, own)?;
@@ -76,7 +74,6 @@ pub(crate) struct SegmentRow {
     pub(crate) own: Own,
     pub(crate) entries: u32,
     pub(crate) ports: u8,
-    ghost few: { ports ≤ 16 },
 }
 
 impl Row for SegmentRow {

@@ -43,7 +43,7 @@ fn sum_of_limits(segments: &[SegmentRule]) -> u64
     total
 }
 
-/// The segments, beside the limits in force, the endpoint's own addresses and the number of its ports, which is 16 at most.
+/// The segments, beside the limits in force, the endpoint's own addresses and the number of its ports.
 #[tactic(auto, unfolding(crate::specs::Settings::segments_of))]
 fn read_segments(
     alloc: Global,
@@ -53,8 +53,7 @@ fn read_segments(
     ports: u8,
     top: &Reader,
 ) -> Result<Vec<SegmentRule>, SettingsFault>
-    requires few { ports ≤ 16 }
-    requires limits { limits.segments ≤ 4094 }
+    requires { limits.segments ≤ 4094 }
     ensures value { GivesAs (λ v. v.items) result (segments_of version limits own ports (place_of top.now)) }
     ensures few { IfOk result (λ v. length v.items ≤ 4094) }
     ensures sum { IfOk result (λ v. sum_of_limits v.items ≤ limits.addresses) }
@@ -130,7 +129,7 @@ fn read_parts(alloc: Global, table: &Table) -> Result<Parts, SettingsFault>
     let given = read_given_pool(&top, addresses_in(&limits))?;
     let limits = limits?;
     let underlay = read_underlay(alloc, version, limits, &top.subtable("underlay")?)?;
-    let tables = top.required_items("port", 16)?;
+    let tables = top.required_items("port", usize::from(limits.ports))?;
     let ports = read_rows(alloc, &PortRow, "port", tables)?;
     let own = underlay.own();
     let segments = read_segments(alloc, version, limits, own, ports.len() as u8, &top)?;

@@ -1,8 +1,9 @@
 //! The underlay's table.
-ghost use Rattle.std.specs.Prelude.{◌≡◌, ◌≤◌, ◌<◌, ◌+◌, length};
-ghost use Rattle.std.specs.FinMap.{empty, len};
+ghost use Rattle.std.specs.Prelude.{◌≡◌, OnOk, IfErr, Ok};
+ghost use Rattle.std.specs.FinMap.{empty};
 ghost use Rattle.std.specs.List.{list_any};
 ghost use Rattle.ip_udp_view.specs.Addr.{same_addr};
+ghost use Rattle.config_text.specs.declared.fault.SettingsFault.TheVariants.{OutOfMemory};
 ghost use Rattle.config_text.specs.Fault.{Gives};
 ghost use Rattle.config_text.specs.Reader.{place_of};
 ghost use Rattle.overlay_config.specs.Underlay.{exceptions, with_exception, hop_of, hops_of};
@@ -56,7 +57,7 @@ pub(crate) fn read_underlay(
     let zero6 = at.defaulted("zero6", &Truth, true)?;
     let partial = read_partial(version, at)?;
     let known = at.listed("known", 16, &KnownOptions, Known::new())?;
-    let hops = read_hops(alloc, at)?;
+    let hops = read_hops(alloc, limits.hops, at)?;
     Ok(Underlay {
         mac,
         next_hop,
@@ -112,39 +113,36 @@ fn read_tunnel_ports(at: &Reader) -> Result<(u16, u16), SettingsFault>
     Ok((vxlan_port, geneve_port))
 }
 
-/// The next hops to single endpoints.
+/// The next hops to single endpoints, so many at most.
 #[tactic(auto, unfolding(crate::specs::Underlay::hops_of))]
-fn read_hops(alloc: Global, at: &Reader) -> Result<Hops, SettingsFault>
-    ensures { Gives result (hops_of (place_of at.now)) }
+fn read_hops(alloc: Global, most: u16, at: &Reader) -> Result<Hops, SettingsFault>
+    ensures { Gives result (hops_of most (place_of at.now)) }
 {
-    let tables = at.limited_items("hop", 64)?;
+    let tables = at.limited_items("hop", usize::from(most))?;
     let hops = read_rows(alloc, &HopRow, "underlay.hop", tables)?;
-    Ok(exceptions(hops.as_slice()))
+    exceptions(alloc, hops.as_slice())
 }
 
-/// Adds an exception, where there is none for its address. There are fewer than 64 before.
-#[tactic(auto, using(crate::proofs::Hops::size))]
-fn add_exception(hops: &mut Hops, addr: Addr, mac: Mac)
-    requires { len hops.old < 64 }
-    ensures value { hops.new ≡ with_exception hops.old (addr, mac) }
-    ensures few { len hops.new ≤ len hops.old + 1 }
+/// Adds an exception, where there is none for its address.
+fn add_exception(hops: &mut Hops, addr: Addr, mac: Mac) -> Result<(), SettingsFault>
+    ensures value { OnOk result (hops.new ≡ with_exception hops.old (addr, mac)) }
+    ensures memory { IfErr result (λ e. e ≡ OutOfMemory) }
 {
     if hops.get(addr).is_none() {
-        hops.insert(addr, mac);
+        hops.insert(addr, mac)?;
     }
+    Ok(())
 }
 
 /// These exceptions from the next hop.
-#[tactic(auto, using(crate::proofs::Hops::none_size))]
-fn exceptions(hops: &[(Addr, Mac)]) -> Hops
-    requires { length hops.now ≤ 64 }
-    ensures { result ≡ exceptions empty hops.now }
+fn exceptions(alloc: Global, hops: &[(Addr, Mac)]) -> Result<Hops, SettingsFault>
+    ensures { Gives result (Ok (exceptions empty hops.now)) }
 {
-    let mut kept = Hops::new();
+    let mut kept = Hops::new(alloc);
     for hop in hops {
-        add_exception(&mut kept, hop.0, hop.1);
+        add_exception(&mut kept, hop.0, hop.1)?;
     }
-    kept
+    Ok(kept)
 }
 
 /// Whether there is a hop to this address.

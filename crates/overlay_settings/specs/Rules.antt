@@ -67,12 +67,15 @@ pub record IsUnderlay (u : Underlay) : Type 0 where
   pub ports_apart : IsFalse (u.geneve_port == u.vxlan_port)
   pub known_count : length u.known ≤ 16
   pub known : EachBehind IsKnown [] u.known
-  pub hop_count : len u.hops ≤ 64
+  pub hop_count : len u.hops ≤ u.limits.hops
   pub hops : AreHops u.hops
+  -- the most ports: as many as a number of 8 bits tells
+  pub port_limit : IsWithin 1 255 u.limits.ports
+  pub hop_limit : IsWithin 1 4096 u.limits.hops
   -- the most segments: all VIDs (IEEE 802.1Q, 9.6)
   pub limits : IsWithin 1 4094 u.limits.segments
   pub entries : IsWithin 1 131072 u.limits.entries
-  pub addresses : IsWithin 1 262144 u.limits.addresses
+  pub addresses : IsWithin 1 1048576 u.limits.addresses
 
 -- ---- ports and segments
 
@@ -118,7 +121,7 @@ HasEntries most earlier s = s.limit ≤ most
 -- all rules of settings
 pub record MeetsRules (s : Settings) : Type 0 where
   pub underlay : IsUnderlay s.underlay
-  pub port_count : IsWithin 1 16 (length s.ports)
+  pub port_count : IsWithin 1 s.underlay.limits.ports (length s.ports)
   pub ports : EachBehind IsPort [] s.ports
   pub segment_count : IsWithin 1 s.underlay.limits.segments (length s.segments)
   pub segments : EachBehind (IsSegment (own s.underlay) (length s.ports)) [] s.segments

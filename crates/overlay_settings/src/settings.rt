@@ -11,7 +11,7 @@ use vlan_ports::PortRule;
 #[derive(Debug, Drop)]
 pub struct Parts {
     pub underlay: Underlay,
-    /// The local ports: the k-th is port k.
+    /// The local ports, 1 to as many as the limits in force say: the k-th is port k.
     pub ports: Vec<PortRule>,
     pub segments: Vec<SegmentRule>,
     /// The most entries that all tables together may be given, 1 to what the limits in force say.

@@ -30,10 +30,10 @@ use Rattle.part_files.proofs.Stations.{Stand}
 abbrev pub SentFits : ℕ → Sent → Type 0
 SentFits n o = IsOutlet n o.place × IfOk o.sent Fits
 
--- so does all that leaves, at no more than 32 of them; and of what is dropped nothing does
+-- so does all that leaves, at no more than 767 of them; and of what is dropped nothing does
 pub record DecisionFits (n : ℕ) (d : Decision) : Type 0 where
   pub outcomes : AllByRecursion (SentFits n) d.outcomes
-  pub few : length d.outcomes ≤ 32
+  pub few : length d.outcomes ≤ 767
   pub dropped : (reason : Reason) → d.dropped ≡ Some reason → d.outcomes ≡ []
 
 -- the same of an answer
@@ -51,7 +51,7 @@ length-each : {A B : Type 0} (f : A → B) (xs : List A) → length (map f xs) �
 length-each f [] = refl
 length-each f (x ∷ xs) = ap suc (length-each f xs)
 
-module _ (n : ℕ) (U : Underlay) (few : n ≤ 16) (own : IsUnderlay U) where
+module _ (n : ℕ) (U : Underlay) (few : n ≤ 255) (own : IsUnderlay U) where
   sents-fit : (S : Settings) (vid : ℕ) (f : Frame) (places : List Place) → Keeps n U S → IsShortFrame f → AllByRecursion (IsOutlet n) places → AllByRecursion (SentFits n) (map (sent_at S vid f) places)
   sents-fit S vid f [] k short all = tt
   sents-fit S vid f (place ∷ places) k short all = (

@@ -1,4 +1,4 @@
--- Where a frame goes: to ports that are there and to endpoints by addresses, and to no more than 32 of them.
+-- Where a frame goes: to ports that are there and to endpoints by addresses, and to no more than 767 of them.
 use Rattle.std.proofs.Common.{◌≡◌, refl, sym, ap, ℕ, zero, suc, ◌+◌, ◌<◌, ◌≤◌, arith, Bool, true, false, cond, not, ◌&&◌, List, [], ◌∷◌, ◌++◌, length, length-append, map, slice_index_or, Option, Some, None, Ok, Err, IfOk}
 use Rattle.std.specs.Prelude.{IfSome, is_some}
 use Rattle.std.specs.List.{AllByRecursion, range_with_len}
@@ -31,9 +31,9 @@ pub outlet-far : (n : ℕ) (place : Place) → IsOutlet n place → IsFar place
 outlet-far n (Local port) is = tt
 outlet-far n (Remote kind addr) is = is
 
--- some of them, at most 32
+-- some of them, at most 767
 abbrev pub AreOutlets : ℕ → List Place → Type 0
-AreOutlets n places = AllByRecursion (IsOutlet n) places × (length places ≤ 32)
+AreOutlets n places = AllByRecursion (IsOutlet n) places × (length places ≤ 767)
 
 -- ---- one place
 
@@ -85,7 +85,7 @@ or-none : (n : ℕ) (places : List Place) → AreOutlets n places → IfOk (or_n
 or-none n [] are = tt
 or-none n (x ∷ xs) are = are
 
-everywhere-outlets : (c : Config) (from : Place) → length c.up ≤ 16 → IsFlood c.flood → IfOk (everywhere c from) (AreOutlets (length c.up))
+everywhere-outlets : (c : Config) (from : Place) → length c.up ≤ 255 → IsFlood c.flood → IfOk (everywhere c from) (AreOutlets (length c.up))
 everywhere-outlets c from few flood =
     let n = length c.up in
     let near = map Local (range_with_len 1 n) in
@@ -110,7 +110,7 @@ everywhere-outlets c from few flood =
 
 -- ---- any frame
 
-pub outlets-are : (c : Config) (from : Place) (f : Frame) (m : Table) → length c.up ≤ 16 → IsFlood c.flood → Stand IsFar m → IfOk (outlets c from f m) (AreOutlets (length c.up))
+pub outlets-are : (c : Config) (from : Place) (f : Frame) (m : Table) → length c.up ≤ 255 → IsFlood c.flood → Stand IsFar m → IfOk (outlets c from f m) (AreOutlets (length c.up))
 outlets-are c from f m few flood all = by (is_group f.dst) (stands f.dst m) (stands-at IsFar f.dst m all)
   where
     toward-are : (o : Option Place) → IfSome o IsFar → IfOk (toward c from o) (AreOutlets (length c.up))

@@ -93,29 +93,29 @@ plain-kind false kind = plain-less 0 7 [] plain-none (omega arith)
 letter : (c : ℕ) → 32 < c → IsPlain 1 (c ∷ [])
 letter c high = plain-one c (λ e. omega (arith, e, high))
 
-plain-place : (n : ℕ) (two : Bool) (place : Place) → n ≤ 16 → IsOutlet n place → IsPlain 87 (place_text two place)
+plain-place : (n : ℕ) (two : Bool) (place : Place) → n ≤ 255 → IsOutlet n place → IsPlain 87 (place_text two place)
 plain-place n two (Local port) few is =
-    plain-less 3 87 (place_text two (Local port)) (plain-more 1 2 (codes "p") (decimal port) (letter 112 (omega arith)) (plain-decimal 2 port (omega arith) (omega (arith, is.1, few)) (omega (arith, is.1, few)))) (omega arith)
+    plain-less 4 87 (place_text two (Local port)) (plain-more 1 3 (codes "p") (decimal port) (letter 112 (omega arith)) (plain-decimal 3 port (omega arith) (omega (arith, is.1, few)) (omega (arith, is.1, few)))) (omega arith)
 plain-place n two (Remote kind addr) few is = plain-more 7 80 (cond two (kind_text kind) []) (addr_text addr) (plain-kind two kind) (plain-addr addr is)
 
 plain-sent : (sent : Result (List ℕ) Reason) → IfOk sent Fits → IsPlain 21 (sent_text sent)
 plain-sent (Ok octets) fits = plain-more 1 20 (codes "=") (decimal (length octets)) (letter 61 (omega arith)) (plain-number (length octets) (omega (arith, fits)))
 plain-sent (Err why) fits = plain-less 17 21 (sent_text (Err why)) (plain-more 1 16 (codes "!") (reason.name_of why) (letter 33 (omega arith)) (plain-reason why)) (omega arith)
 
-plain-outcome : (n : ℕ) (two : Bool) (o : Sent) → n ≤ 16 → SentFits n o → IsPlain 108 (outcome_text two o)
+plain-outcome : (n : ℕ) (two : Bool) (o : Sent) → n ≤ 255 → SentFits n o → IsPlain 108 (outcome_text two o)
 plain-outcome n two o few is = plain-more 87 21 (place_text two o.place) (sent_text o.sent) (plain-place n two o.place few is.0) (plain-sent o.sent is.1)
 
 space : IsPlain 1 (codes " ")
 space = plain-one 32 (λ e. omega (arith, e))
 
-plain-further : (n : ℕ) (two : Bool) (os : List Sent) → n ≤ 16 → AllByRecursion (SentFits n) os → IsPlain (109 * length os) (further_text two os)
+plain-further : (n : ℕ) (two : Bool) (os : List Sent) → n ≤ 255 → AllByRecursion (SentFits n) os → IsPlain (109 * length os) (further_text two os)
 plain-further n two [] few all = plain-none
 plain-further n two (o ∷ os) few all =
     plain-less (109 + 109 * length os) (109 * length (o ∷ os)) (further_text two (o ∷ os))
     (plain-more 109 (109 * length os) (32 ∷ outcome_text two o) (further_text two os) (plain-more 1 108 (codes " ") (outcome_text two o) space (plain-outcome n two o few all.0)) (plain-further n two os few all.1))
     (omega arith)
 
-plain-outcomes : (n : ℕ) (two : Bool) (os : List Sent) → n ≤ 16 → AllByRecursion (SentFits n) os → IsPlain (109 * length os) (outcomes_text two os)
+plain-outcomes : (n : ℕ) (two : Bool) (os : List Sent) → n ≤ 255 → AllByRecursion (SentFits n) os → IsPlain (109 * length os) (outcomes_text two os)
 plain-outcomes n two [] few all = plain-none
 plain-outcomes n two (o ∷ os) few all =
     plain-less (108 + 109 * length os) (109 * length (o ∷ os)) (outcomes_text two (o ∷ os))
@@ -136,10 +136,10 @@ drop-word = record { lacks = refl; short = omega arith }
 refused-word : IsPlain 8 (codes "refused ")
 refused-word = record { lacks = refl; short = omega arith }
 
-plain-result : (n : ℕ) (two : Bool) (dropped : Option Reason) (os : List Sent) → n ≤ 16 → AllByRecursion (SentFits n) os → length os ≤ 32 → IsPlain 3488 (result_by two dropped os)
-plain-result n two None os few all some = plain-less (109 * length os) 3488 (outcomes_text two os) (plain-outcomes n two os few all) (omega (arith, some))
+plain-result : (n : ℕ) (two : Bool) (dropped : Option Reason) (os : List Sent) → n ≤ 255 → AllByRecursion (SentFits n) os → length os ≤ 767 → IsPlain 83603 (result_by two dropped os)
+plain-result n two None os few all some = plain-less (109 * length os) 83603 (outcomes_text two os) (plain-outcomes n two os few all) (omega (arith, some))
 plain-result n two (Some why) os few all some =
-    plain-less 27 3488 (result_by two (Some why) os) (plain-named (codes "drop ") (reason.number_of why) (reason.name_of why) drop-word (small-reason why) (plain-reason why)) (omega arith)
+    plain-less 27 83603 (result_by two (Some why) os) (plain-named (codes "drop ") (reason.number_of why) (reason.name_of why) drop-word (small-reason why) (plain-reason why)) (omega arith)
 
 plain-reply : (f : Option ChangeFault) → IsPlain 27 (reply_text f)
 plain-reply None = record { lacks = refl; short = omega arith }
@@ -156,12 +156,12 @@ abbrev pub segment_told : Option ℕ → Answer → Option ℕ
 segment_told named (Decided d) = d.segment
 segment_told named (Replied fault) = named
 
-plain-answer : (n : ℕ) (named : Option ℕ) (d : Answer) → n ≤ 16 → AnswerFits n d → IsVid (segment_told named d) → IsPlain 3493 (answer_text named d)
+plain-answer : (n : ℕ) (named : Option ℕ) (d : Answer) → n ≤ 255 → AnswerFits n d → IsVid (segment_told named d) → IsPlain 83608 (answer_text named d)
 plain-answer n named (Decided d) few fits vid =
-    plain-more 5 3488 (segment_text d.segment ++ codes " ") (result_by d.two_tunnels d.dropped d.outcomes) (plain-more 4 1 (segment_text d.segment) (codes " ") (plain-segment d.segment vid) space)
+    plain-more 5 83603 (segment_text d.segment ++ codes " ") (result_by d.two_tunnels d.dropped d.outcomes) (plain-more 4 1 (segment_text d.segment) (codes " ") (plain-segment d.segment vid) space)
     (plain-result n d.two_tunnels d.dropped d.outcomes few fits.outcomes fits.few)
 plain-answer n named (Replied f) few fits vid =
-    plain-less 32 3493 (answer_text named (Replied f))
+    plain-less 32 83608 (answer_text named (Replied f))
     (plain-more 5 27 (segment_text named ++ codes " ") (reply_text f) (plain-more 4 1 (segment_text named) (codes " ") (plain-segment named vid) space) (plain-reply f)) (omega arith)
 
 plain-tap : (tap : Tap) → IsSource (sources.Tap tap) → IsPlain 4 (tap_word tap)
@@ -188,8 +188,8 @@ plain-front number e is =
     (plain-number e.moment is.moment)) space) (plain-source (source_of e.happening) is.source)) space) (plain-number e.number is.own)) space
 
 -- all of it but its end
-pub plain-line : (n number : ℕ) (e : Event) (named : Option ℕ) (d : Answer) → n ≤ 16 → IsFront number e → AnswerFits n d → IsVid (segment_told named d) → IsPlain 3561 (line_front number e ++ answer_text named d)
-plain-line n number e named d few front fits vid = plain-more 68 3493 (line_front number e) (answer_text named d) (plain-front number e front) (plain-answer n named d few fits vid)
+pub plain-line : (n number : ℕ) (e : Event) (named : Option ℕ) (d : Answer) → n ≤ 255 → IsFront number e → AnswerFits n d → IsVid (segment_told named d) → IsPlain 83676 (line_front number e ++ answer_text named d)
+plain-line n number e named d few front fits vid = plain-more 68 83608 (line_front number e) (answer_text named d) (plain-front number e front) (plain-answer n named d few fits vid)
 
 -- the line of a cut capture but its end
 pub plain-cut : (cut : Cut) → IsSource (sources.Tap cut.tap) → cut.whole < 2 ^ 64 → IsPlain 29 (codes "cut " ++ tap_word cut.tap ++ codes " " ++ decimal cut.whole)

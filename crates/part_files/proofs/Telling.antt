@@ -45,7 +45,7 @@ RowFits n most row = IsComing n most row.0 × AnswerFits n row.1
 
 -- ---- one line
 
-line-of-body : (body : List ℕ) (most : ℕ) → IsPlain most body → most < 4096 → IsLine (body ++ 10 ∷ [])
+line-of-body : (body : List ℕ) (most : ℕ) → IsPlain most body → most < 131072 → IsLine (body ++ 10 ∷ [])
 line-of-body body most plain low = record {
   body = body;
   is = refl;
@@ -55,7 +55,7 @@ line-of-body body most plain low = record {
 
 -- ---- what a merge is told
 
-outcome-is : (n : ℕ) (o : Sent) → n ≤ 16 → SentFits n o → IsOutcome o
+outcome-is : (n : ℕ) (o : Sent) → n ≤ 255 → SentFits n o → IsOutcome o
 outcome-is n o few is = (place o.place is.0, sent o.sent is.1)
   where
     place : (p : Place) → IsOutlet n p → IsPlace p
@@ -66,7 +66,7 @@ outcome-is n o few is = (place o.place is.0, sent o.sent is.1)
     sent (Ok octets) fits = omega (arith, fits)
     sent (Err why) fits = tt
 
-outcomes-are : (n : ℕ) (os : List Sent) → n ≤ 16 → AllByRecursion (SentFits n) os → AllByRecursion IsOutcome os
+outcomes-are : (n : ℕ) (os : List Sent) → n ≤ 255 → AllByRecursion (SentFits n) os → AllByRecursion IsOutcome os
 outcomes-are n [] few all = tt
 outcomes-are n (o ∷ os) few all = (outcome-is n o few all.0, outcomes-are n os few all.1)
 
@@ -107,12 +107,12 @@ records-are n moment (Replied fault) early fits = tt
 
 -- ---- an event
 
-source-is : (n : ℕ) (h : Happening) → n ≤ 16 → Comes n h → IsSource (source_of h)
+source-is : (n : ℕ) (h : Happening) → n ≤ 255 → Comes n h → IsSource (source_of h)
 source-is n (happenings.Change index) few own = tt
 source-is n (happenings.Record (Port port) c) few own = omega (arith, own.0.1, few)
 source-is n (happenings.Record Under c) few own = tt
 
-front-is : (n most number : ℕ) (e : Happens) → n ≤ 16 → most < 2 ^ 64 → number ≤ most → IsComing n most e → IsFront number e
+front-is : (n most number : ℕ) (e : Happens) → n ≤ 255 → most < 2 ^ 64 → number ≤ most → IsComing n most e → IsFront number e
 front-is n most number e few fits le is = record {
   number = omega (arith, le, fits);
   moment = omega (arith, is.moment);
@@ -129,13 +129,13 @@ segment-is changes h (Decided d) asked = vid-is d.segment asked
 segment-is changes (happenings.Change index) (Replied fault) asked = vid-is _ asked
 segment-is changes (happenings.Record tap c) (Replied fault) asked = tt
 
-told-is : (n number : ℕ) (e : Happens) (named : Option ℕ) (a : Answer) → n ≤ 16 → IsFront number e → AnswerFits n a → IsVid (segment_told named a)
+told-is : (n number : ℕ) (e : Happens) (named : Option ℕ) (a : Answer) → n ≤ 255 → IsFront number e → AnswerFits n a → IsVid (segment_told named a)
     → facts_of (line number e (answer_text named a)) ≡ Ok (facts.Event number (taps (map record_in (sent_by e.moment a))))
 told-is n number e named (Decided d) few front fits vid =
     decisions number e d front vid (outcomes-are n d.outcomes few fits.outcomes) ∙ ap (λ (l : List Tap). Ok (facts.Event number l)) (taken-is n e.moment d fits)
 told-is n number e named (Replied fault) few front fits vid = replies number e named fault front vid
 
-piece-is : (changes : List Change) (n most number : ℕ) (row : Happens × Answer) → n ≤ 16 → most < 2 ^ 64 → number ≤ most → RowFits n most row → IsAsked (told_in (input_of changes row.0.happening) row.1)
+piece-is : (changes : List Change) (n most number : ℕ) (row : Happens × Answer) → n ≤ 255 → most < 2 ^ 64 → number ≤ most → RowFits n most row → IsAsked (told_in (input_of changes row.0.happening) row.1)
     → IsPiece n (piece_of changes number row)
 piece-is changes n most number row few fits le is asked =
     let e = row.0 in
@@ -145,14 +145,14 @@ piece-is changes n most number row few fits le is asked =
     let coming = is.0 in
     let vid = segment-is changes e.happening row.1 asked in
     record {
-      line = subst IsLine (append_assoc (line_front number e) text (10 ∷ [])) (line-of-body (line_front number e ++ text) 3561 (plain-line n number e named row.1 few front is.1 vid) (omega arith));
+      line = subst IsLine (append_assoc (line_front number e) text (10 ∷ [])) (line-of-body (line_front number e ++ text) 83676 (plain-line n number e named row.1 few front is.1 vid) (omega arith));
       told = told-is n number e named row.1 few front is.1 vid;
       records = records-are n e.moment row.1 coming.moment is.1;
     }
 
 -- ---- all events
 
-pieces-are : (changes : List Change) (n most count : ℕ) (rows : List (Happens × Answer)) → n ≤ 16 → most < 2 ^ 64 → count + length rows ≤ most → AllByRecursion (RowFits n most) rows
+pieces-are : (changes : List Change) (n most count : ℕ) (rows : List (Happens × Answer)) → n ≤ 255 → most < 2 ^ 64 → count + length rows ≤ most → AllByRecursion (RowFits n most) rows
     → AllByRecursion (λ (t : Told). IsAsked t.segment) (told_from changes count rows) → AllByRecursion (IsPiece n) (all_pieces (told_from changes count rows))
 pieces-are changes n most count [] few fits le all asked = tt
 pieces-are changes n most count (row ∷ rows) few fits le all asked = (
@@ -170,7 +170,7 @@ input-is changes n (happenings.Change index) all own = index-all changes index a
 input-is changes n (happenings.Record (Port port) c) all own = tt
 input-is changes n (happenings.Record Under c) all own = own.1
 
-rows-fit : (changes : List Change) (n most : ℕ) (U : Underlay) (few : n ≤ 16) (own : IsUnderlay U) → AllByRecursion HasAddr changes → (s : State) (es : List Happens) → Knows n U s.bridges → AllByRecursion (IsComing n most) es
+rows-fit : (changes : List Change) (n most : ℕ) (U : Underlay) (few : n ≤ 255) (own : IsUnderlay U) → AllByRecursion HasAddr changes → (s : State) (es : List Happens) → Knows n U s.bridges → AllByRecursion (IsComing n most) es
     → AllByRecursion (RowFits n most) (zip es (answers s (map (event_of changes) es)))
 rows-fit changes n most U few own all s [] knows coming = tt
 rows-fit changes n most U few own all s (e ∷ es) knows coming =
@@ -186,7 +186,7 @@ rows-fewer (e ∷ es) [] = omega arith
 rows-fewer (e ∷ es) (a ∷ found) = omega (arith, rows-fewer es found)
 
 -- the pieces of a run
-pub pieces-read : (changes : List Change) (n : ℕ) (U : Underlay) (s : State) (es : List Happens) → n ≤ 16 → IsUnderlay U → length es < 2 ^ 64 → AllByRecursion HasAddr changes → Knows n U s.bridges → AllByRecursion (IsComing n (length es)) es
+pub pieces-read : (changes : List Change) (n : ℕ) (U : Underlay) (s : State) (es : List Happens) → n ≤ 255 → IsUnderlay U → length es < 2 ^ 64 → AllByRecursion HasAddr changes → Knows n U s.bridges → AllByRecursion (IsComing n (length es)) es
     → AllByRecursion (λ (t : Told). IsAsked t.segment) (told_from changes 0 (zip es (answers s (map (event_of changes) es))))
     → AllByRecursion (IsPiece n) (all_pieces (told_from changes 0 (zip es (answers s (map (event_of changes) es)))))
 pieces-read changes n U s es few own fits all knows coming asked =
@@ -195,12 +195,12 @@ pieces-read changes n U s es few own fits all knows coming asked =
 
 -- ---- cuts
 
-cut-is : (n most : ℕ) (cut : Cut) → n ≤ 16 → most < 2 ^ 64 → IsCut n most cut → IsCutLine (cut_line cut)
+cut-is : (n most : ℕ) (cut : Cut) → n ≤ 255 → most < 2 ^ 64 → IsCut n most cut → IsCutLine (cut_line cut)
 cut-is n most cut few fits is = record {
   line = line-of-body (codes "cut " ++ tap_word cut.tap ++ codes " " ++ decimal cut.whole) 29 (plain-cut cut (source-is n (happenings.Record cut.tap (record { original = 0; octets = [] })) few (is.tap, λ i. omega arith)) (omega (arith, is.whole, fits))) (omega arith);
   told = cuts cut;
 }
 
-pub cuts-read : (n most : ℕ) (cs : List Cut) → n ≤ 16 → most < 2 ^ 64 → AllByRecursion (IsCut n most) cs → AllByRecursion IsCutLine (map cut_line cs)
+pub cuts-read : (n most : ℕ) (cs : List Cut) → n ≤ 255 → most < 2 ^ 64 → AllByRecursion (IsCut n most) cs → AllByRecursion IsCutLine (map cut_line cs)
 cuts-read n most [] few fits all = tt
 cuts-read n most (c ∷ cs) few fits all = (cut-is n most c few fits all.0, cuts-read n most cs few fits all.1)

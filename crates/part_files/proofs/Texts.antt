@@ -49,7 +49,7 @@ early = all-map (IsTimed HasAddr) IsMoment (λ (c : TimedChange). c.at) (λ c ti
 pub reads-back : (settings changes : List ℕ) (texts : List (Vec ℕ Global)) (text : List ℕ) → AreOctets texts text → AreCounted changes texts text → ReadsBack settings changes texts text
 reads-back settings changes texts text octets counted s cs timeline settings_are changes_are read many =
     let rules = texts_meet settings s settings_are in
-    let few : length texts ≤ 16 = omega (arith, many, rules.port_count.1) in
+    let few : length texts ≤ 255 = omega (arith, many, rules.port_count.1, rules.underlay.port_limit.1) in
     let timed = text-timed changes cs changes_are in
     let moments = map (λ (c : TimedChange). c.at) cs in
     let asked_changes : List Change = map (λ (c : TimedChange). c.change) cs in

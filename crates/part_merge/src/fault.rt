@@ -28,7 +28,7 @@ pub enum RecordsFault {
 /// What is wrong with a part.
 #[derive(Clone, Copy, Debug, PartialEq, Eq, Error)]
 pub enum PartFault {
-    /// A decision line has more than 4,096 octets.
+    /// A decision line has more than 131,072 octets.
     #[error("long line")]
     LongLine,
     /// A line is no decision line.

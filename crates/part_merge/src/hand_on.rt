@@ -1,8 +1,9 @@
 //! What outputs hold back, handed on between events: the captures first and the lines behind them, so that no line leaves
 //! before the records of its event.
 //!
-//! Where the lines' block has no room for one line more, 4,096 octets, all blocks are handed on, the captures' first, as a run
-//! does (`stream_run`). So a merge that is killed, or a full disk, leaves no line without its records.
+//! Where the lines' block has no room for one line more of a run, 4,096 octets with up to 16 ports and 59,134 with more, all
+//! blocks are handed on, the captures' first, as a run does (`stream_run`). So a merge that is killed, or a full disk, leaves no
+//! line without its records.
 //!
 //! Where a read of a part may wait, all goes on before each: before the record that is copied or the line that is fetched, unless
 //! it was read ahead whole. So whenever a merge waits, all that was merged stands outside.
@@ -16,9 +17,6 @@ ghost use Rattle.part_merge.specs.Waiting.{AllOut, CapturesOut, PortsOut};
 use crate::fault::{MergeFault, Target};
 use pcap_stream::{Output, Sink};
 use timeline::Tap;
-
-/// How many octets a line of a part has at most.
-pub(crate) const LONGEST_LINE: usize = 4_096;
 
 /// How many ports a merge has at most.
 const MOST_PORTS: usize = 255;

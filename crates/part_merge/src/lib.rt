@@ -15,10 +15,11 @@
 //! while one waits. That any other fault of a part comes only where the part is wrong in this way isn't proved.
 //!
 //! Why it is so: a whole run numbers its events from 1 on, so a merge tells the first number that no part has. Where the last
-//! events are missing no number tells so; the count in `shard.txt` does. Each capture of each part has room for one record,
-//! 262,144 octets, and each part's lines have room for one, 4,096 octets: 64 parts of 17 captures take 272 MiB. A record is
-//! written as a run writes it, little-endian and in nanoseconds, also where its capture is of another style; one that holds
-//! only a front of its frame is a fault.
+//! events are missing no number tells so; the count in `shard.txt` does. A record is written as a run writes it, little-endian
+//! and in nanoseconds, also where its capture is of another style; one that holds only a front of its frame is a fault. Each
+//! capture of each part reserves room for one record, 262,144 octets, and touches 65,536 of it where none is longer; each part's
+//! lines reserve 131,072, and touch what their longest took. So 64 parts of 17 captures reserve 280 MiB and touch 68, and 64
+//! parts of 256 captures reserve 4,104 MiB and touch 1,024.
 #![tactic(auto)]
 
 mod capture;

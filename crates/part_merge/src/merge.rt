@@ -16,8 +16,9 @@ ghost use Rattle.part_merge.specs.Whole.{Adds, AllHold, AllRise, AreParts, HaveA
 
 use crate::fault::{MergeFault, PartFault, Target};
 use crate::first::find_first;
-use crate::hand_on::{LONGEST_LINE, hand_on_all, hand_on_captures_before};
+use crate::hand_on::{hand_on_all, hand_on_captures_before};
 use crate::part::Part;
+use decision_lines::most_of_a_line;
 use pcap_stream::{Input, Output, Sink};
 use timeline::Tap;
 
@@ -156,7 +157,7 @@ fn put_and_hand_on<R: Input, W: Output>(
     if let Err(fault) = put_at(parts, index, port_sinks, underlay_sink, decisions, may_wait) {
         return Err(fault);
     }
-    if decisions.must_hand_on(LONGEST_LINE) {
+    if decisions.must_hand_on(most_of_a_line(port_sinks.len())) {
         return hand_on_all(port_sinks, underlay_sink, decisions);
     }
     Ok(())

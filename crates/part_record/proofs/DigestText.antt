@@ -144,8 +144,8 @@ pub record IsReadTo (text told : List ℕ) (ports : List CaptureDigest) (under :
   pub first : text ≡ first_line ++ told
   pub read : told ≡ digest_lines 1 ports ++ under
   pub digests : All IsDigest ports
-  pub few : length ports ≤ 16
-  pub no_more : (d : CaptureDigest) (rest : List ℕ) → IsDigest d → length ports < 16 → under ≢ port_line (length ports + 1) d ++ rest
+  pub few : length ports ≤ 255
+  pub no_more : (d : CaptureDigest) (rest : List ℕ) → IsDigest d → length ports < 255 → under ≢ port_line (length ports + 1) d ++ rest
 
 module _ {text told : List ℕ} {ports : List CaptureDigest} {under : List ℕ} (read : IsReadTo text told ports under) where
   pub front_is : text ≡ first_line ++ (digest_lines 1 ports ++ under)

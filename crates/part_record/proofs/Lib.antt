@@ -1,4 +1,5 @@
 pub mod Captures
+pub mod Counts
 pub mod DigestText
 pub mod Lines
 pub mod OutputText

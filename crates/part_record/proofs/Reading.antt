@@ -103,8 +103,8 @@ events_are f r is old events new small e h = same_numbers (codes "events ") even
 lacks_port : (sum rest : List ℕ) → LacksPort (capture_line taps.Underlay sum ++ rest)
 lacks_port sum rest = λ q e. let wrong : 117 ≡ 112 = ap (λ (l : List ℕ). get_or l 8 0) e in omega (arith, wrong)
 
-pub ports_are : (f : Facts) (r : List ℕ) → IsRecord f → (old : List ℕ) (sums : List (List ℕ)) (new : List ℕ) → All IsSum sums → length sums ≤ 16
-    → ((sum rest : List ℕ) → IsSum sum → length sums < 16 → new ≢ capture_line (taps.Port (length sums + 1)) sum ++ rest)
+pub ports_are : (f : Facts) (r : List ℕ) → IsRecord f → (old : List ℕ) (sums : List (List ℕ)) (new : List ℕ) → All IsSum sums → length sums ≤ 255
+    → ((sum rest : List ℕ) → IsSum sum → length sums < 255 → new ≢ capture_line (taps.Port (length sums + 1)) sum ++ rest)
     → old ≡ port_lines 1 sums ++ new → old ≡ behind_changes f r → (sums ≡ f.ports) × (new ≡ behind_ports f r)
 ports_are f r is old sums new of few none e h =
     let at : 1 + length sums ≡ length sums + 1 = omega arith in
@@ -184,8 +184,8 @@ pub record IsReadTo (text : List ℕ) (has_both : Bool) (segments settings : Lis
   pub changes_none : IfNone changes ((sum rest : List ℕ) → IsSum sum → changed ≢ sum_line (codes "changes ") sum ++ rest)
   pub changes_read : changed ≡ changes_line changes ++ captured
   pub port_sums : All IsSum ports
-  pub few : length ports ≤ 16
-  pub no_more : (sum rest : List ℕ) → IsSum sum → length ports < 16 → under ≢ capture_line (taps.Port (length ports + 1)) sum ++ rest
+  pub few : length ports ≤ 255
+  pub no_more : (sum rest : List ℕ) → IsSum sum → length ports < 255 → under ≢ capture_line (taps.Port (length ports + 1)) sum ++ rest
   pub ports_read : captured ≡ port_lines 1 ports ++ under
 
 front_parts : (a b c d e f : List ℕ) → a ++ (b ++ (c ++ (d ++ (e ++ f)))) ≡ a ++ b ++ c ++ d ++ e ++ f

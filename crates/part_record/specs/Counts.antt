@@ -4,10 +4,10 @@ use Rattle.timeline.specs.declared.source.Tap.{Tap}
 use Rattle.timeline.specs.declared.source.Tap.TheVariants as taps
 use Rattle.part_record.specs.declared.record_counts.RecordCounts.{RecordCounts}
 
--- a capture that is counted: of one of 16 ports, or of the underlay
+-- a capture that is counted: of one of 255 ports, or of the underlay
 abbrev pub HasCount : Tap → Type 0
 HasCount (taps.Port zero) = ⊥
-HasCount (taps.Port (suc k)) = suc k ≤ 16
+HasCount (taps.Port (suc k)) = suc k ≤ 255
 HasCount taps.Underlay = Unit {0}
 
 -- how many records there are of a capture

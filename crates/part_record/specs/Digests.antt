@@ -20,7 +20,7 @@ digest_of octets = record { octets = counted octets; sum = sha256 octets }
 -- what can be told of the captures of a run
 pub record AreDigests (ports : List CaptureDigest) (underlay : CaptureDigest) : Type 0 where
   pub each : All IsDigest ports
-  pub few : length ports ≤ 16
+  pub few : length ports ≤ 255
   pub last : IsDigest underlay
 
 -- a character doesn't stand in a text
@@ -57,8 +57,8 @@ abbrev pub IsFaultIn : List ℕ → DigestsFault → Type 0
 IsFaultIn text faults.Head = (rest : List ℕ) → text ≢ first_line ++ rest
 IsFaultIn text faults.Capture =
     (ports : List CaptureDigest) × (rest : List ℕ) × All IsDigest ports
-    × (length ports ≤ 16) × (text ≡ first_line ++ (digest_lines 1 ports ++ rest))
-    × ((d : CaptureDigest) (behind : List ℕ) → IsDigest d → length ports < 16 → rest ≢ port_line (length ports + 1) d ++ behind)
+    × (length ports ≤ 255) × (text ≡ first_line ++ (digest_lines 1 ports ++ rest))
+    × ((d : CaptureDigest) (behind : List ℕ) → IsDigest d → length ports < 255 → rest ≢ port_line (length ports + 1) d ++ behind)
     × ((d : CaptureDigest) (behind : List ℕ) → IsDigest d → rest ≢ underlay_line d ++ behind)
 IsFaultIn text faults.Behind =
     (ports : List CaptureDigest) × (underlay : CaptureDigest) × (rest : List ℕ) × AreDigests ports underlay

@@ -21,11 +21,11 @@ IsNoCapture text fault =
     ⊎ (LacksChanges text × (fault ≡ faults.Capture))
 
 -- behind the changes and the ports' captures of these facts there is no line that can follow: of the changes, where there are
--- none yet; of the next port's capture, of 16 at most; of the underlay's
+-- none yet; of the next port's capture, of 255 at most; of the underlay's
 pub record LacksNext (f : Facts) (rest : List ℕ) : Type 0 where
   pub changes : f.changes ≡ None → f.ports ≡ [] → (sum behind : List ℕ)
       → IsSum sum → rest ≢ changes_line (Some sum) ++ behind
-  pub port : (sum behind : List ℕ) → IsSum sum → length f.ports < 16
+  pub port : (sum behind : List ℕ) → IsSum sum → length f.ports < 255
       → rest ≢ capture_line (taps.Port (length f.ports + 1)) sum ++ behind
   pub underlay : (sum behind : List ℕ) → IsSum sum → rest ≢ capture_line taps.Underlay sum ++ behind
 

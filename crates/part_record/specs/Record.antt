@@ -48,7 +48,7 @@ pub record IsRecord (f : Facts) : Type 0 where
   pub settings : IsSum f.settings
   pub changes : IfSome f.changes IsSum
   pub ports : All IsSum f.ports
-  pub few : length f.ports ≤ 16
+  pub few : length f.ports ≤ 255
   pub underlay : IsSum f.underlay
   pub both : IsTime f.both
   pub events : f.events < 2 ^ 64

@@ -38,13 +38,11 @@ pub(crate) fn put_port_digests(
     text: &mut Vec<u8>,
     digests: &[CaptureDigest],
 ) -> Result<(), AllocError>
-    requires { length digests.now ≤ 16 }
+    requires { length digests.now ≤ 255 }
     ensures { OnOk result (text.new.items ≡ text.old.items ++ digest_lines 1 digests.now) }
 {
-    let mut port = 1u8;
-    for digest in digests {
-        put_port_digest(text, port, digest)?;
-        port += 1;
+    for index in 0..digests.len() {
+        put_port_digest(text, index as u8 + 1, &digests[index])?;
     }
     Ok(())
 }
@@ -87,25 +85,24 @@ fn port_digest(text: &str, port: u8) -> Option<(CaptureDigest, &str)>
     digest_behind(told, " ")
 }
 
-/// What is told of the ports' captures on their lines, 16 at most, and what stands behind these lines.
+/// What is told of the ports' captures on their lines, 255 at most, and what stands behind these lines.
 pub(crate) fn port_digests(text: &str) -> (ArrayVec<CaptureDigest, MOST_PORTS>, &str)
     ensures read { text.now ≡ digest_lines 1 result.0.items ++ result.1.now }
     ensures digests { All IsDigest result.0.items }
-    ensures few { length result.0.items ≤ 16 }
-    ensures all { (d : ADigest) (rest : List ℕ) → IsDigest d → length result.0.items < 16
+    ensures few { length result.0.items ≤ 255 }
+    ensures all { (d : ADigest) (rest : List ℕ) → IsDigest d → length result.0.items < 255
         → result.1.now ≢ port_line (length result.0.items + 1) d ++ rest }
 {
     let mut digests = ArrayVec::new();
     let mut rest = text;
-    let mut port = 1u8;
     while !digests.is_full() {
+        let port = digests.len() as u8 + 1;
         let Some(found) = port_digest(rest, port) else {
             return (digests, rest);
         };
         let digest = found.0;
         digests.push(digest);
         rest = found.1;
-        port += 1;
     }
     (digests, rest)
 }

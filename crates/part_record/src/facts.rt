@@ -2,7 +2,7 @@
 use arrayvec::ArrayVec;
 
 /// The most ports that a run has.
-pub const MOST_PORTS: usize = 16;
+pub const MOST_PORTS: usize = 255;
 
 /// What a part of a run was made from. Digests are of SHA-256 (FIPS 180-4).
 #[derive(Debug, Drop)]

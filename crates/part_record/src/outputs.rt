@@ -178,7 +178,7 @@ fn output_behind(text: &str, place: usize) -> Option<(OutputFacts, &str)>
 
 /// What is told of outputs on their lines, of so many at most, and what stands behind these lines.
 pub(crate) fn outputs_of(text: &str, most: usize) -> (ToldOutputs, &str)
-    requires { most ≤ 18 }
+    requires { most ≤ 257 }
     ensures read { text.now ≡ output_lines 0 result.0.items ++ result.1.now }
     ensures outputs { All IsOutput result.0.items }
     ensures few { length result.0.items ≤ most }

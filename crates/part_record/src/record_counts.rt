@@ -7,7 +7,7 @@ ghost use Rattle.part_record.specs.Counts.{HasCount, records_at};
 use crate::facts::MOST_PORTS;
 use timeline::Tap;
 
-/// How many records there are of each capture: of 16 ports, and of the underlay. Each count ends at 2^64 - 1.
+/// How many records there are of each capture: of 255 ports, and of the underlay. Each count ends at 2^64 - 1.
 #[derive(Clone, Copy, Debug, Default)]
 pub struct RecordCounts {
     ports: [u64; MOST_PORTS],
@@ -25,7 +25,7 @@ impl RecordCounts {
         }
     }
 
-    /// Counts one more record of a capture. Ports above 16 have no count.
+    /// Counts one more record of a capture. Port 0, which no capture is of, has no count.
     pub fn count(&mut self, tap: Tap)
         ensures more { HasCount tap → records_at self.new tap ≡ min (2 ^ 64 - 1) (records_at self.old tap + 1) }
         ensures others { (other : ATap) → other ≢ tap → records_at self.new other ≡ records_at self.old other }
@@ -51,7 +51,7 @@ impl RecordCounts {
         }
     }
 
-    /// How many records there are of a capture: of a port above 16 none.
+    /// How many records there are of a capture: of port 0 none.
     pub fn records(&self, tap: Tap) -> u64
         ensures { result ≡ records_at self.now tap }
     {

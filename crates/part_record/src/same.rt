@@ -65,10 +65,10 @@ fn is_same_choice(a: Option<&[u8; 32]>, b: Option<&[u8; 32]>) -> bool
 
 /// The first place at which two lists differ.
 fn first_other(a: &[[u8; 32]], b: &[[u8; 32]]) -> Option<usize>
-    requires few { length a.now ≤ 16 }
-    requires others { length b.now ≤ 16 }
+    requires few { length a.now ≤ 255 }
+    requires others { length b.now ≤ 255 }
     ensures none { IfNone result (a.now ≡ b.now) }
-    ensures some { IfSome result (λ k. (take k a.now ≡ take k b.now) × (slice_get a.now k ≢ slice_get b.now k) × (k < 16)) }
+    ensures some { IfSome result (λ k. (take k a.now ≡ take k b.now) × (slice_get a.now k ≢ slice_get b.now k) × (k < 255)) }
 {
     let common = a.len().min(b.len());
     for index in 0..common {

@@ -102,25 +102,24 @@ fn port_sum(text: &str, port: u8) -> Option<([u8; 32], &str)>
     sum_behind(told, " ")
 }
 
-/// The digests on the lines of the ports' captures, 16 at most, and what stands behind these lines.
+/// The digests on the lines of the ports' captures, 255 at most, and what stands behind these lines.
 pub(crate) fn ports_of(text: &str) -> (ArrayVec<[u8; 32], MOST_PORTS>, &str)
     ensures read { text.now ≡ port_lines 1 result.0.items ++ result.1.now }
     ensures sums { All IsSum result.0.items }
-    ensures few { length result.0.items ≤ 16 }
-    ensures all { (sum rest : List ℕ) → IsSum sum → length result.0.items < 16
+    ensures few { length result.0.items ≤ 255 }
+    ensures all { (sum rest : List ℕ) → IsSum sum → length result.0.items < 255
         → result.1.now ≢ capture_line (Port (length result.0.items + 1)) sum ++ rest }
 {
     let mut sums = ArrayVec::new();
     let mut rest = text;
-    let mut port = 1u8;
     while !sums.is_full() {
+        let port = sums.len() as u8 + 1;
         let Some(found) = port_sum(rest, port) else {
             return (sums, rest);
         };
         let sum = found.0;
         sums.push(sum);
         rest = found.1;
-        port += 1;
     }
     (sums, rest)
 }

@@ -112,13 +112,11 @@ fn put_port(text: &mut Vec<u8>, port: u8, sum: &[u8; 32]) -> Result<(), AllocErr
 
 /// Puts the lines of the ports' captures behind a text.
 fn put_ports(text: &mut Vec<u8>, sums: &[[u8; 32]]) -> Result<(), AllocError>
-    requires { length sums.now ≤ 16 }
+    requires { length sums.now ≤ 255 }
     ensures { OnOk result (text.new.items ≡ text.old.items ++ port_lines 1 sums.now) }
 {
-    let mut port = 1u8;
-    for sum in sums {
-        put_port(text, port, sum)?;
-        port += 1;
+    for index in 0..sums.len() {
+        put_port(text, index as u8 + 1, &sums[index])?;
     }
     Ok(())
 }

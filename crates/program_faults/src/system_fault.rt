@@ -1,9 +1,12 @@
 //! Why the system refused a file.
-ghost use Rattle.std.specs.Prelude.{◌≡◌, option_map};
+ghost use Rattle.std.specs.Prelude.{◌≡◌, ◌≢◌, false, option_map, pos, true};
 ghost use Rattle.std.specs.IoError.{raw_os_error};
 
 use std::fmt;
 use std::io::{Error, ErrorKind};
+
+/// The system's number of the fault that the process has as many files open as it may (POSIX, `EMFILE`).
+const TOO_MANY_OPEN: i32 = 24;
 
 /// Why the system refused a file, or a read or a write of one, by its own number of that. It prints in a few words.
 #[derive(Clone, Copy, Debug, PartialEq, Eq)]
@@ -23,6 +26,14 @@ impl SystemFault {
     /// Whether the file, or a folder that its name has, isn't there.
     pub fn is_not_there(self) -> bool {
         self.error().kind() == ErrorKind::NotFound
+    }
+
+    /// Whether the process had as many files open as it may.
+    pub fn is_of_open_files(self) -> bool
+        ensures many { self.0 ≡ pos 24 → result ≡ true }
+        ensures other { self.0 ≢ pos 24 → result ≡ false }
+    {
+        self.0 == TOO_MANY_OPEN
     }
 
     /// The error that the number stands for.
@@ -49,6 +60,9 @@ fn words_of(kind: ErrorKind) -> Option<&'static str> {
 
 impl fmt::Display for SystemFault {
     fn fmt<W: fmt::Write>(&self, f: &mut fmt::Formatter<W>) -> fmt::Result {
+        if self.is_of_open_files() {
+            return f.write_str("too many files are open");
+        }
         let error = self.error();
         match words_of(error.kind()) {
             Some(words) => f.write_str(words),

@@ -2,10 +2,8 @@
 //!
 //! Each of them is told, since the next thing to ask is which of them are whole.
 use arrayvec::ArrayVec;
+use part_record::MOST_OUTPUTS;
 use program_faults::{Failure, OutputFile, SystemFault};
-
-/// How many outputs are written in blocks: the captures of sixteen ports, that of the underlay, and the decision lines.
-const MOST: usize = 18;
 
 /// An output that couldn't be written, and why, where the system told it.
 #[derive(Clone, Copy, Debug, PartialEq, Eq)]
@@ -37,7 +35,7 @@ impl Default for FailedOutput {
 /// The outputs of a run or of a merge that couldn't be written: the ports' captures rising, the underlay's, the decision lines.
 #[derive(Drop)]
 pub struct FailedOutputs {
-    files: ArrayVec<FailedOutput, MOST>,
+    files: ArrayVec<FailedOutput, MOST_OUTPUTS>,
 }
 
 impl FailedOutputs {

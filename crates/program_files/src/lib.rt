@@ -18,10 +18,12 @@
 
 mod failed_outputs;
 mod file_causes;
+mod found_files;
 mod handed_on;
 mod inputs;
 mod interface_list;
 mod names;
+mod open_files;
 mod output_device;
 mod outputs;
 mod part_inputs;
@@ -30,6 +32,7 @@ mod printing;
 
 pub use failed_outputs::{FailedOutput, FailedOutputs};
 pub use file_causes::{head_of_file, read_fault};
+pub use found_files::FoundFiles;
 pub use handed_on::HandedOn;
 pub use inputs::{
     Blocks, CAPTURE_READS, Capture, ClassicInput, Device, SeenCapture, open_blocks, open_capture,
@@ -38,6 +41,7 @@ pub use inputs::{
 };
 pub use interface_list::{Described, MOST_INTERFACES, Reach, interfaces_of_file};
 pub use names::{Names, RunInput, file_of, is_read_once, is_regular_file, is_same};
+pub use open_files::{files_at_once, has_room, is_refused, see_room};
 pub use output_device::OutputDevice;
 pub use outputs::{
     Opened, OutputSums, Outputs, PartRecordFile, Written, open_outputs, path_of, spare_inputs,

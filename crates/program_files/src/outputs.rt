@@ -6,6 +6,7 @@ ghost use Rattle.std.specs.Prelude.{◌≡◌, IfOk, length};
 ghost use Rattle.pcap_stream.specs.Block.{told};
 ghost use Rattle.program_files.specs.Held.{AreHeld, written};
 
+use crate::found_files::FoundFiles;
 use crate::names::Names;
 use crate::output_device::OutputDevice;
 use arrayvec::ArrayVec;
@@ -14,10 +15,17 @@ use part_record::{MOST_PORTS, SumOutput};
 use pcap_stream::{BlockOutput, Sink, StdOutput};
 use program_faults::{Failure, OutputFile};
 use std::alloc::{AllocError, Global};
-use std::fs::{OpenFile, OpenOptions};
+use std::fs::{self, OpenFile, OpenOptions};
 use std::io::{self, Write};
 use std::path::{Path, PathBuf};
 use std::rt::Files;
+
+/// How many octets of a capture are written at once.
+const BLOCK: usize = 65_536;
+
+/// How many octets of the decision lines are. All blocks go on where that of the lines may lack room for the longest line, of
+/// some 59,000 octets: so they go on no more often than those of the captures.
+const LINES_BLOCK: usize = 131_072;
 
 /// A file that is written in blocks, whose octets are summed where a part writes it.
 pub type Written<F> = BlockOutput<SumOutput<StdOutput<OutputDevice<F>>>>;
@@ -65,28 +73,29 @@ pub fn spare_inputs<R: Files + AllocGlobal>(
     folder: &str,
     names: Names<'_, '_>,
 ) -> Result<(), Failure<'static>> {
+    let inputs = names.found(rt)?;
     for index in 0..names.ports.len() {
-        spare(rt, folder, names, OutputFile::Port(index + 1))?;
+        spare(rt, folder, &inputs, OutputFile::Port(index + 1))?;
     }
-    spare(rt, folder, names, OutputFile::Underlay)?;
-    spare(rt, folder, names, OutputFile::Decisions)?;
-    spare(rt, folder, names, OutputFile::PartRecord)?;
-    spare(rt, folder, names, OutputFile::Tables)?;
-    spare(rt, folder, names, OutputFile::Summary)
+    spare(rt, folder, &inputs, OutputFile::Underlay)?;
+    spare(rt, folder, &inputs, OutputFile::Decisions)?;
+    spare(rt, folder, &inputs, OutputFile::PartRecord)?;
+    spare(rt, folder, &inputs, OutputFile::Tables)?;
+    spare(rt, folder, &inputs, OutputFile::Summary)
 }
 
 /// Refuses this output if it is one of the files that are read.
 fn spare<R: Files + AllocGlobal>(
     rt: &R,
     folder: &str,
-    names: Names<'_, '_>,
+    inputs: &FoundFiles,
     output: OutputFile,
 ) -> Result<(), Failure<'static>> {
     let path = path_of(rt.alloc(), folder, output)?;
-    if names.contain(rt, path.as_path()) {
-        return Err(Failure::Write(output));
+    match fs::metadata(rt, path.as_path()) {
+        Ok(found) if inputs.have(&found) => Err(Failure::Write(output)),
+        _ => Ok(()),
     }
-    Ok(())
 }
 
 /// Where an output stands.
@@ -154,9 +163,8 @@ fn open<R: Files + AllocGlobal>(
 }
 
 impl<F: Write + OpenFile + Drop> Opened<F> {
-    /// Empties the files. They are written in blocks of so many octets; where it is 0, each record and each line goes out at
-    /// once.
-    pub fn emptied(self, alloc: Global, block: usize) -> Result<Outputs<F>, Failure<'static>>
+    /// Empties the files. They are written in blocks: captures of 64 KiB, and decision lines of 128 KiB.
+    pub fn emptied(self, alloc: Global) -> Result<Outputs<F>, Failure<'static>>
         ensures count { IfOk result (λ outputs. length outputs.ports.items ≡ length self.ports.items) }
         ensures in_files { IfOk result (λ outputs. AreHeld F.contents (written outputs.ports.items outputs.underlay outputs.decisions)) }
     {
@@ -176,7 +184,7 @@ impl<F: Write + OpenFile + Drop> Opened<F> {
         let mut ports = Vec::new(alloc);
         for file in files {
             let output = OutputFile::Port(ports.len() + 1);
-            let written = match empty(alloc, file, output, block, is_part) {
+            let written = match empty(alloc, file, output, BLOCK, is_part) {
                 Ok(written) => written,
                 Err(failure) => return Err(failure),
             };
@@ -184,11 +192,17 @@ impl<F: Write + OpenFile + Drop> Opened<F> {
                 return Err(Failure::from(AllocError));
             }
         }
-        let underlay = match empty(alloc, underlay, OutputFile::Underlay, block, is_part) {
+        let underlay = match empty(alloc, underlay, OutputFile::Underlay, BLOCK, is_part) {
             Ok(written) => Sink::new(written),
             Err(failure) => return Err(failure),
         };
-        match empty(alloc, decisions, OutputFile::Decisions, block, is_part) {
+        match empty(
+            alloc,
+            decisions,
+            OutputFile::Decisions,
+            LINES_BLOCK,
+            is_part,
+        ) {
             Ok(decisions) => Ok(Outputs {
                 ports,
                 underlay,

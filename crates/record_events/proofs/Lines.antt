@@ -77,8 +77,8 @@ take_few zero text = omega arith
 take_few (suc n) [] = omega arith
 take_few (suc n) (c ∷ cs) = omega (arith, take_few n cs)
 
--- a line of 4,096 octets at most tells of fewer places than a u64 counts
-pub few_places : (text : List ℕ) (number : ℕ) (places : List Tap) → ◌≡◌ {A = Result LineFacts LineFault} (Ok (facts.Event number places)) (facts_of text) → length text ≤ 4096 → length places < 2 ^ 64
+-- a line of 131,072 octets at most tells of fewer places than a u64 counts
+pub few_places : (text : List ℕ) (number : ℕ) (places : List Tap) → ◌≡◌ {A = Result LineFacts LineFault} (Ok (facts.Event number places)) (facts_of text) → length text ≤ 131072 → length places < 2 ^ 64
 unfolding facts_of
 few_places text number places e short = by_end (has_end text) e
   where

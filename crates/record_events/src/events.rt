@@ -39,7 +39,7 @@ impl<R: Input> Model for RecordEvents<R> {
 }
 
 impl<R: Input> RecordEvents<R> {
-    /// Those of a place. It reserves room for a line, 4,096 octets, and reads nothing.
+    /// Those of a place. It reserves room for a line, 131,072 octets, and reads nothing.
     pub fn new(alloc: Global, input: R, tap: Tap) -> Result<RecordEvents<R>, AllocError>
     where
         R: Drop,

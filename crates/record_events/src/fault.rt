@@ -9,7 +9,7 @@ pub enum EventFault {
     /// A read failed.
     #[error("Read")]
     Read,
-    /// A decision line has more than 4,096 octets.
+    /// A decision line has more than 131,072 octets.
     #[error("long line")]
     LongLine,
     /// A line is no decision line.

@@ -20,7 +20,7 @@ pub(crate) struct Step {
 /// last line, and at that of a cut capture, there is none.
 #[tactic(auto, using(crate::proofs::Lines::few_places, crate::proofs::Lines::told_by_facts))]
 pub(crate) fn step_by(line: &[u8], tap: Tap, last: u64) -> Result<Step, EventFault>
-    requires { length line.now ≤ 4096 }
+    requires { length line.now ≤ 131072 }
     ensures value { result ≡ step_by tap last line.now }
     ensures later { IfOk result (λ step. last < step.number) }
 {

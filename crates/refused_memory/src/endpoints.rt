@@ -1,6 +1,7 @@
 //! Calls with what an endpoint decides.
 ghost use Rattle.std.specs.Prelude.{◌≤◌, length};
 ghost use Rattle.endpoint_core.specs.Kept.{state_of};
+ghost use Rattle.endpoint_core.specs.Outlets.{HasFewOutlets};
 
 use crate::answer::Answer;
 use crate::inputs;
@@ -28,6 +29,7 @@ fn frame<'a>(endpoint: &mut Endpoint, now: u64, port: u8, octets: &'a [u8]) -> D
     requires moment { (state_of endpoint.old).moment ≤ now }
     requires low { 1 ≤ port }
     requires high { port ≤ length (state_of endpoint.old).bridges.settings.ports.ports }
+    requires few { HasFewOutlets (state_of endpoint.old).bridges.settings }
 {
     endpoint.frame(now, port, 14, octets)
 }
@@ -35,7 +37,7 @@ fn frame<'a>(endpoint: &mut Endpoint, now: u64, port: u8, octets: &'a [u8]) -> D
 /// What is decided of a frame at port 1, if there is one.
 fn decision<'a>(endpoint: &mut Endpoint, octets: &'a [u8]) -> Option<Decision<'a>> {
     let now = endpoint.now();
-    if endpoint.ports() == 0 {
+    if endpoint.ports() == 0 || !endpoint.has_few_outlets() {
         return None;
     }
     Some(frame(endpoint, now, 1, octets))

@@ -38,7 +38,7 @@ pub(crate) fn tables(alloc: Global, count: u16, are_shared: bool) -> Result<Answ
 pub(crate) fn ports(alloc: Global, count: u16) -> Result<Answer, Fail> {
     let settings = settings(alloc)?;
     request(alloc, count);
-    if settings.ports().len() > 16 {
+    if settings.ports().len() > 255 {
         return Ok(Answer::Wrong);
     }
     Ok(Answer::of(PortSet::open(alloc, settings.ports(), &[]).is_ok(), true))

@@ -1,6 +1,7 @@
 //! Steps of every kind.
 ghost use Rattle.std.specs.Prelude.{◌≤◌, length};
 ghost use Rattle.endpoint_core.specs.Kept.{state_of};
+ghost use Rattle.endpoint_core.specs.Outlets.{HasFewOutlets};
 
 use crate::events::{frame_of, packet_of, place_of, renumbered};
 use crate::summary::{mixed, with_decision};
@@ -64,13 +65,15 @@ fn decided_at(endpoint: &mut Endpoint, now: u64, port: u8, octets: &[u8], number
     requires moment { (state_of endpoint.old).moment ≤ now }
     requires low { 1 ≤ port }
     requires high { port ≤ length (state_of endpoint.old).bridges.settings.ports.ports }
+    requires few { HasFewOutlets (state_of endpoint.old).bridges.settings }
 {
     with_decision(number, &endpoint.frame(now, port, 18, octets))
 }
 
 /// A number with what is decided of a packet mixed in.
 fn decided_by(endpoint: &mut Endpoint, now: u64, octets: &[u8], number: u64) -> u64
-    requires { (state_of endpoint.old).moment ≤ now }
+    requires moment { (state_of endpoint.old).moment ≤ now }
+    requires few { HasFewOutlets (state_of endpoint.old).bridges.settings }
 {
     with_decision(number, &endpoint.packet(now, 110, octets))
 }
@@ -87,7 +90,7 @@ fn change(endpoint: &mut Endpoint, now: u64, change: Change, tally: &mut Tally)
 
 /// A frame comes a second later.
 fn frame(endpoint: &mut Endpoint, port: u8, octets: &[u8], number: u64) -> u64 {
-    if port == 0 || port > endpoint.ports() {
+    if port == 0 || port > endpoint.ports() || !endpoint.has_few_outlets() {
         return number;
     }
     let now = later(endpoint);
@@ -96,6 +99,9 @@ fn frame(endpoint: &mut Endpoint, port: u8, octets: &[u8], number: u64) -> u64 {
 
 /// A packet comes a second later.
 fn packet(endpoint: &mut Endpoint, octets: &[u8], number: u64) -> u64 {
+    if !endpoint.has_few_outlets() {
+        return number;
+    }
     let now = later(endpoint);
     decided_by(endpoint, now, octets, number)
 }

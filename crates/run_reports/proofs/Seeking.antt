@@ -1,18 +1,16 @@
 -- What is sought, read from names and marked by events.
-use Rattle.std.proofs.Common.{◌≡◌, ◌≢◌, ◌∙◌, ap, subst, sym, refl, ℕ, zero, suc, ◌+◌, ◌<◌, Bool, true, false, eqb, ◌||◌, List, [], ◌∷◌, ◌++◌, Bor, map, length, set, take, drop, get_or, Option, Some, None, MatchOption, ◌⊎◌, inl, inr, arith, append_assoc}
-use Rattle.std.proofs.lemmas.Bool.{eq-eqb, eqb-true, cond-true, cond-false}
-use Rattle.std.proofs.lemmas.List.{length-map, length-take, map_more}
+use Rattle.std.proofs.Common.{◌≡◌, ◌≢◌, ◌∙◌, ap, subst, sym, refl, ℕ, zero, suc, ◌+◌, ◌<◌, Bool, true, false, eqb, ◌||◌, List, [], ◌∷◌, ◌++◌, Bor, map, length, replicate, set, take, drop, get_or, Option, Some, None, MatchOption, ◌⊎◌, inl, inr, arith, append_assoc}
+use Rattle.std.proofs.lemmas.Bool.{cases_lt, eq-eqb, eqb-false, eqb-true, cond-true, cond-false}
+use Rattle.std.proofs.lemmas.List.{get_or-replicate, get_or-set_other, get_or-set_same, get_or_past, length-map, length-replicate, length-take, map_more}
 use Rattle.std.specs.Prelude.{Result, Ok, Err, not, option_map, ◌&&◌}
 use Rattle.std.specs.Str.Pattern.{FindsTextPrefix, StripsPrefix}
 use Rattle.std.proofs.Math.Bool.{and-false, or-false}
 use Rattle.std.specs.List.{list_any}
 use Rattle.frame_view.specs.declared.reason.Reason.{Reason}
-use Rattle.encapsulate.specs.Emission.{Parts}
-use Rattle.encapsulate.specs.Remote.{texts}
-use Rattle.endpoint_core.specs.Decision.{Decision, Sent, sent_of}
-use Rattle.endpoint_core.specs.declared.decision.Outcome.{Outcome}
+use Rattle.encapsulate.specs.Remote.{sizes}
+use Rattle.endpoint_core.specs.Decision.{Decision}
 use Rattle.timeline.specs.declared.source.Tap.TheVariants.{Port, Underlay}
-use Rattle.run_reports.specs.Sought.{address_at, has_address, has_reason, addresses_at, addresses_sought, address_in, address_met, behind, is_new_address, is_new_reason, is_reason, unsent, numbers_from, numbers_in, reason_at, reason_met, reasons_in, reasons_sought}
+use Rattle.run_reports.specs.Sought.{address_at, has_address, has_reason, addresses_at, addresses_sought, address_in, address_met, behind, is_for, is_new_address, is_new_by, is_new_reason, met_by, numbers_from, numbers_in, reason_at, reason_met, reasons_in, reasons_sought, unsent}
 use Rattle.run_reports.specs.declared.passing.Passing.{Passing}
 use Rattle.run_reports.specs.declared.wanted.Reasons.{Reasons}
 use Rattle.run_reports.specs.declared.sought.SoughtAddress.{SoughtAddress}
@@ -232,20 +230,10 @@ stripped letters text (Some x) strips =
     let found = strips.1 in
     ap Some strips.2 ∙ sym (ap (behind letters) found.1 ∙ behind_front letters (drop n text))
 
--- ---- outcomes as octets
-
-pub unsent_as_octets : (number : ℕ) (os : List Outcome) → list_any (λ (o : Outcome). is_reason number (unsent o.sent)) os ≡ list_any (λ (o : Sent). is_reason number (unsent o.sent)) (map sent_of os)
-unsent_as_octets number [] = refl
-unsent_as_octets number (o ∷ os) = λ i. is_reason number (same o.sent i) || unsent_as_octets number os i
-  where
-    same : (r : Result Parts Reason) → unsent r ≡ unsent (texts r)
-    same (Ok e) = refl
-    same (Err reason) = refl
-
 -- ---- an event more, at one of the list
 
-pub met_here : (d : Option Decision) (k : SoughtReason) → k.is_met ≡ false → has_reason d k ≡ true → (record k { is_met = true } ≡ reason_met d k) × (is_new_reason d k ≡ true)
-met_here d k away has = (ap (λ b. record k { is_met = b }) (sym (ap (λ b. b || has_reason d k) away ∙ has)), ap (λ b. not b && has_reason d k) away ∙ has)
+pub met_here : (has : ℕ → Bool) (k : SoughtReason) → k.is_met ≡ false → has k.number ≡ true → (record k { is_met = true } ≡ met_by has k) × (is_new_by has k ≡ true)
+met_here has k away here = (ap (λ b. record k { is_met = b }) (sym (ap (λ b. b || has k.number) away ∙ here)), ap (λ b. not b && has k.number) away ∙ here)
 
 pub address_met_here : (p : Option Passing) (k : SoughtAddress) → k.is_met ≡ false → has_address p k ≡ true → (record k { is_met = true } ≡ address_met p k) × (is_new_address p k ≡ true)
 address_met_here p k away has = (ap (λ b. record k { is_met = b }) (sym (ap (λ b. b || has_address p k) away ∙ has)), ap (λ b. not b && has_address p k) away ∙ has)
@@ -256,9 +244,9 @@ passed_by true h either = (refl, refl)
 passed_by false true either = absurd (elim either [ inl e ↦ cc | inr e ↦ cc ])
 passed_by false false either = (refl, refl)
 
-pub reason_passed : (d : Option Decision) (k : SoughtReason) → (k.is_met ≡ true) ⊎ (has_reason d k ≡ false) → (reason_met d k ≡ k) × (is_new_reason d k ≡ false)
-reason_passed d k either =
-    let both = passed_by k.is_met (has_reason d k) either in
+pub reason_passed : (has : ℕ → Bool) (k : SoughtReason) → (k.is_met ≡ true) ⊎ (has k.number ≡ false) → (met_by has k ≡ k) × (is_new_by has k ≡ false)
+reason_passed has k either =
+    let both = passed_by k.is_met (has k.number) either in
     (ap (λ b. record k { is_met = b }) both.0, both.1)
 
 pub address_passed : (p : Option Passing) (k : SoughtAddress) → (k.is_met ≡ true) ⊎ (has_address p k ≡ false) → (address_met p k ≡ k) × (is_new_address p k ≡ false)
@@ -295,26 +283,26 @@ addresses_read names i d before now asked lt so_far read put =
 
 -- ---- a reason or an address of the loop
 
-pub reason_marked : (s : Decision) (old now new : List SoughtReason) (i : ℕ) (d : SoughtReason) (first : Bool) → i < length old → now ≡ marked (reason_met (Some s)) i old
-    → (get_or now i d).is_met ≡ false → has_reason (Some s) (get_or now i d) ≡ true → first ≡ true → new ≡ set now i (record (get_or now i d) { is_met = true })
-    → (first ≡ list_any (is_new_reason (Some s)) (take (i + 1) old)) × (new ≡ marked (reason_met (Some s)) (i + 1) old)
-reason_marked s old now new i d first lt is away has first_is new_is =
+pub reason_marked : (has : ℕ → Bool) (old now new : List SoughtReason) (i : ℕ) (d : SoughtReason) (first : Bool) → i < length old → now ≡ marked (met_by has) i old
+    → (get_or now i d).is_met ≡ false → has (get_or now i d).number ≡ true → first ≡ true → new ≡ set now i (record (get_or now i d) { is_met = true })
+    → (first ≡ list_any (is_new_by has) (take (i + 1) old)) × (new ≡ marked (met_by has) (i + 1) old)
+reason_marked has old now new i d first lt is away this first_is new_is =
     let k = get_or old i d in
-    let here : get_or now i d ≡ k = ap (λ ks. get_or ks i d) is ∙ marked_here (reason_met (Some s)) old i d lt in
-    let both = met_here (Some s) k (ap (λ (k : SoughtReason). k.is_met) (sym here) ∙ away) (ap (has_reason (Some s)) (sym here) ∙ has) in
-    let made : record (get_or now i d) { is_met = true } ≡ reason_met (Some s) k = ap (λ (k : SoughtReason). record k { is_met = true }) here ∙ both.0 in
-    let all = loop_met (reason_met (Some s)) (is_new_reason (Some s)) old now i d (record (get_or now i d) { is_met = true }) lt is made both.1 in
+    let here : get_or now i d ≡ k = ap (λ ks. get_or ks i d) is ∙ marked_here (met_by has) old i d lt in
+    let both = met_here has k (ap (λ (k : SoughtReason). k.is_met) (sym here) ∙ away) (ap (λ (k : SoughtReason). has k.number) (sym here) ∙ this) in
+    let made : record (get_or now i d) { is_met = true } ≡ met_by has k = ap (λ (k : SoughtReason). record k { is_met = true }) here ∙ both.0 in
+    let all = loop_met (met_by has) (is_new_by has) old now i d (record (get_or now i d) { is_met = true }) lt is made both.1 in
     (first_is ∙ all.0, new_is ∙ all.1)
 
-pub reason_left : (s : Decision) (old now new : List SoughtReason) (i : ℕ) (d : SoughtReason) (first next : Bool) → i < length old → first ≡ list_any (is_new_reason (Some s)) (take i old)
-    → now ≡ marked (reason_met (Some s)) i old → ((get_or now i d).is_met ≡ true) ⊎ (has_reason (Some s) (get_or now i d) ≡ false)
+pub reason_left : (has : ℕ → Bool) (old now new : List SoughtReason) (i : ℕ) (d : SoughtReason) (first next : Bool) → i < length old → first ≡ list_any (is_new_by has) (take i old)
+    → now ≡ marked (met_by has) i old → ((get_or now i d).is_met ≡ true) ⊎ (has (get_or now i d).number ≡ false)
     → next ≡ first → new ≡ set now i (get_or now i d)
-    → (next ≡ list_any (is_new_reason (Some s)) (take (i + 1) old)) × (new ≡ marked (reason_met (Some s)) (i + 1) old)
-reason_left s old now new i d first next lt so_far is either next_is new_is =
+    → (next ≡ list_any (is_new_by has) (take (i + 1) old)) × (new ≡ marked (met_by has) (i + 1) old)
+reason_left has old now new i d first next lt so_far is either next_is new_is =
     let k = get_or old i d in
-    let here : get_or now i d ≡ k = ap (λ ks. get_or ks i d) is ∙ marked_here (reason_met (Some s)) old i d lt in
-    let both = reason_passed (Some s) k (subst (λ (k : SoughtReason). (k.is_met ≡ true) ⊎ (has_reason (Some s) k ≡ false)) here either) in
-    let all = loop_passed (reason_met (Some s)) (is_new_reason (Some s)) old now i d first lt so_far is both.0 both.1 in
+    let here : get_or now i d ≡ k = ap (λ ks. get_or ks i d) is ∙ marked_here (met_by has) old i d lt in
+    let both = reason_passed has k (subst (λ (k : SoughtReason). (k.is_met ≡ true) ⊎ (has k.number ≡ false)) here either) in
+    let all = loop_passed (met_by has) (is_new_by has) old now i d first lt so_far is both.0 both.1 in
     (next_is ∙ all.0, new_is ∙ set_same now i d ∙ all.1)
 
 pub address_marked : (p : Passing) (old now new : List SoughtAddress) (i : ℕ) (d : SoughtAddress) (first : Bool) → i < length old → now ≡ marked (address_met (Some p)) i old
@@ -338,3 +326,60 @@ address_left p old now new i d first next lt so_far is either next_is new_is =
     let both = address_passed (Some p) k (subst (λ (k : SoughtAddress). (k.is_met ≡ true) ⊎ (has_address (Some p) k ≡ false)) here either) in
     let all = loop_passed (address_met (Some p)) (is_new_address (Some p)) old now i d first lt so_far is both.0 both.1 in
     (next_is ∙ all.0, new_is ∙ set_same now i d ∙ all.1)
+
+-- ---- the reasons of an event, marked by their numbers
+
+-- nothing is marked
+pub none_marked : (n : ℕ) → get_or (replicate 256 false) n false ≡ false
+none_marked n =
+    elim (cases_lt n 256) [
+      | inl low ↦ get_or-replicate 256 n false false low
+      | inr high ↦ get_or_past (replicate 256 false) n false (omega (arith, length-replicate {A = Bool} 256 false, high))
+    ]
+
+-- so what is marked then is just what an event has of which this is decided
+marked_alone : (marks : List Bool) (d : Decision) → ((n : ℕ) → get_or marks n false ≡ (get_or (replicate 256 false) n false || is_for n d)) → (n : ℕ) → get_or marks n false ≡ is_for n d
+marked_alone marks d told n = told n ∙ ap (λ (b : Bool). b || is_for n d) (none_marked n)
+
+pub first_by_marks : (marks : List Bool) (d : Decision) (ks : List SoughtReason) → ((n : ℕ) → get_or marks n false ≡ (get_or (replicate 256 false) n false || is_for n d))
+    → list_any (is_new_by (λ (n : ℕ). get_or marks n false)) ks ≡ list_any (is_new_reason (Some d)) ks
+first_by_marks marks d [] told = refl
+first_by_marks marks d (k ∷ ks) told = λ i. (not k.is_met && marked_alone marks d told k.number i) || first_by_marks marks d ks told i
+
+pub met_by_marks : (marks : List Bool) (d : Decision) (ks : List SoughtReason) → ((n : ℕ) → get_or marks n false ≡ (get_or (replicate 256 false) n false || is_for n d))
+    → map (met_by (λ (n : ℕ). get_or marks n false)) ks ≡ map (reason_met (Some d)) ks
+met_by_marks marks d [] told = refl
+met_by_marks marks d (k ∷ ks) told = λ i. record k { is_met = k.is_met || marked_alone marks d told k.number i } ∷ met_by_marks marks d ks told i
+
+-- one number more is
+pub one_marked : (marks : List Bool) (i n : ℕ) → i < length marks → get_or (set marks i true) n false ≡ (get_or marks n false || eqb i n)
+one_marked marks i n inside = by (eqb i n) refl
+  where
+    or_true : (a : Bool) → (a || true) ≡ true
+    or_true true = refl
+    or_true false = refl
+
+    by : (b : Bool) → eqb i n ≡ b → get_or (set marks i true) n false ≡ (get_or marks n false || b)
+    by true is =
+        ap (λ k. get_or (set marks i true) k false) (sym (eqb-true i n is)) ∙ get_or-set_same marks i true false inside ∙ sym (or_true (get_or marks n false))
+    by false is = get_or-set_other marks i n true false (λ same. eqb-false i n is (sym same)) ∙ sym (or-false (get_or marks n false))
+
+-- why nothing is sent is told by the length of what is
+pub unsent_by_size : (sent : Result (List ℕ) Reason) → unsent (sizes sent) ≡ unsent sent
+unsent_by_size (Ok octets) = refl
+unsent_by_size (Err reason) = refl
+
+-- where one more is marked
+pub marked_one_more : {X : Type 0} (p : X → Bool) (xs : List X) (i : ℕ) (d : X) (old now new : Bool) → i < length xs → now ≡ (old || list_any p (take i xs)) → new ≡ (now || p (get_or xs i d))
+    → new ≡ (old || list_any p (take (i + 1) xs))
+marked_one_more p xs i d old now new lt so_far is =
+    let one : suc i ≡ i + 1 = omega arith in
+    is ∙ ap (λ b. b || p (get_or xs i d)) so_far ∙ assoc old (list_any p (take i xs)) (p (get_or xs i d)) ∙ ap (λ b. old || b) (sym (any_more p xs i d lt) ∙ ap (λ k. list_any p (take k xs)) one)
+  where
+    assoc : (a b c : Bool) → ((a || b) || c) ≡ (a || (b || c))
+    assoc true b c = refl
+    assoc false b c = refl
+
+pub any_of_map : {X Y : Type 0} (p : Y → Bool) (f : X → Y) (xs : List X) → list_any (λ x. p (f x)) xs ≡ list_any p (map f xs)
+any_of_map p f [] = refl
+any_of_map p f (x ∷ xs) = ap (λ b. p (f x) || b) (any_of_map p f xs)

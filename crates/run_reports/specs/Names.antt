@@ -9,12 +9,12 @@ use Rattle.run_reports.specs.declared.wanted.Reasons.{Reasons}
 use Rattle.run_reports.specs.declared.wanted.Reasons.TheVariants.{No, One, Every}
 use Rattle.run_reports.specs.declared.reading.Name.{Name}
 
--- a run has such a source: ports 1 to 16, the underlay, the changes; or none is named
+-- a run has such a source: ports 1 to 255, the underlay, the changes; or none is named
 abbrev pub can_come_from : Option Source → Bool
 can_come_from None = true
 can_come_from (Some Changes) = true
 can_come_from (Some (Tap Underlay)) = true
-can_come_from (Some (Tap (Port port))) = nat_le 1 port && nat_le port 16
+can_come_from (Some (Tap (Port port))) = nat_le 1 port && nat_le port 255
 
 -- an event can have the name: numbers are from 1
 abbrev pub can_name : Option Name → Bool

@@ -85,9 +85,9 @@ reasons_sought place (name ∷ names) = map (reason_at place) (numbers_in (reaso
 abbrev pub address_at : ℕ → List ℕ → Tap → SoughtAddress
 address_at place address tap = record { address = address; tap = tap; place = place; is_met = false }
 
--- ports 1 to 16, and the underlay
+-- ports 1 to 255, and the underlay
 abbrev pub every_tap : List Tap
-every_tap = map (λ port. Port port) (numbers_from 1 16) ++ Underlay ∷ []
+every_tap = map (λ port. Port port) (numbers_from 1 255) ++ Underlay ∷ []
 
 -- an address at each tap
 abbrev pub addresses_at : ℕ → Option (List ℕ) → List SoughtAddress
@@ -176,6 +176,13 @@ reason_met d k = record k { is_met = k.is_met || has_reason d k }
 
 abbrev pub is_new_reason : Option Decision → SoughtReason → Bool
 is_new_reason d k = not k.is_met && has_reason d k
+
+-- with an event that has the reasons of these numbers
+abbrev pub met_by : (ℕ → Bool) → SoughtReason → SoughtReason
+met_by has k = record k { is_met = k.is_met || has k.number }
+
+abbrev pub is_new_by : (ℕ → Bool) → SoughtReason → Bool
+is_new_by has k = not k.is_met && has k.number
 
 -- with an event whose frame is this one
 abbrev pub address_met : Option Passing → SoughtAddress → SoughtAddress

@@ -18,6 +18,7 @@
 #![tactic(auto)]
 
 mod asked;
+mod causes;
 mod onlooker;
 mod passing;
 mod reading;

@@ -1,15 +1,14 @@
-//! The addresses of an event's frame, and what is decided of it.
-ghost use Rattle.std.specs.Prelude.{◌≡◌, option_map};
-ghost use Rattle.std.specs.List.{list_any};
+//! The addresses of an event's frame, and where it goes.
+ghost use Rattle.std.specs.Prelude.{◌≡◌, IfSome, option_map};
 ghost use Rattle.std.specs.Ordering.{eq_by_cmp};
 ghost use Rattle.filter_db.specs.Table.{mac_cmp};
-ghost use Rattle.endpoint_core.specs.Decision.{octets_of};
+ghost use Rattle.endpoint_core.specs.Course.{CanLeave, decision_of};
 ghost use Rattle.endpoint_core.specs.Kept.{state_of};
 ghost use Rattle.event_story.specs.Story.{can_come, is_there};
-ghost use Rattle.run_reports.specs.Sought.{foreseen, is_for, is_reason, passing_at, passing_by, passing_of, same_tap, unsent};
+ghost use Rattle.run_reports.specs.Sought.{foreseen, passing_at, passing_by, passing_of, same_tap};
 
-use endpoint_core::{Course, Decision, Endpoint, Outcome};
-use frame_view::{EtherView, Mac, Reason};
+use endpoint_core::{Course, Endpoint, Outlets};
+use frame_view::{EtherView, Mac};
 use timeline::{Event, Happening, Tap};
 
 /// Where a frame came, and its addresses.
@@ -82,9 +81,16 @@ pub fn same_address(left: Mac, right: Mac) -> bool
     left == right
 }
 
-/// What is decided of an event that comes to an endpoint, which stays as it is; nothing, where it can't come, and of a change.
-pub fn foreseen<'a>(endpoint: &Endpoint, event: &Event<'a>) -> Option<Decision<'a>>
-    ensures { option_map octets_of result ≡ foreseen (state_of endpoint.now) event.now }
+/// Where an event that comes to an endpoint goes, with the places in a list that is written over; the endpoint stays as it is.
+/// Nothing, where it can't come, and of a change.
+pub fn foreseen<'a>(
+    endpoint: &Endpoint,
+    event: &Event<'a>,
+    places: &mut Outlets,
+) -> Option<Course<'a>>
+    ensures decision { let S = (state_of endpoint.now).bridges.settings in
+        option_map (λ course. decision_of S course places.new.items) result ≡ foreseen (state_of endpoint.now) event.now }
+    ensures leave { IfSome result (λ course. CanLeave (state_of endpoint.now).bridges.settings course places.new.items) }
 {
     if !can_come(endpoint, event) {
         return None;
@@ -93,11 +99,11 @@ pub fn foreseen<'a>(endpoint: &Endpoint, event: &Event<'a>) -> Option<Decision<'
         Happening::Change(_) => None,
         Happening::Record(Tap::Port(port), captured) => {
             let (original, octets) = (captured.original, captured.octets);
-            Some(endpoint.foresee_frame(event.moment, *port, original, octets))
+            Some(endpoint.course_of_frame(event.moment, *port, original, octets, places))
         }
         Happening::Record(Tap::Underlay, captured) => {
             let (original, octets) = (captured.original, captured.octets);
-            Some(endpoint.foresee_packet(event.moment, original, octets))
+            Some(endpoint.course_of_packet(event.moment, original, octets, places))
         }
     }
 }
@@ -116,41 +122,5 @@ fn is_there(ports: u8, happening: &Happening) -> bool
     match happening {
         Happening::Record(Tap::Port(port), _) => 1 <= *port && *port <= ports,
         _ => true,
-    }
-}
-
-/// Whether a frame or packet was dropped for the reason of this number, or isn't sent at an outlet for it.
-pub fn is_for(number: u8, decision: &Decision) -> bool
-    ensures { result ≡ is_for number (octets_of decision.now) }
-{
-    is_reason(number, decision.dropped()) || is_unsent_for(number, decision.outcomes())
-}
-
-/// Whether something isn't sent at an outlet for the reason of this number.
-fn is_unsent_for(number: u8, outcomes: &[Outcome]) -> bool
-    ensures { result ≡ list_any (λ o. is_reason number (unsent o.sent)) outcomes.now }
-{
-    outcomes
-        .iter()
-        .any(|outcome| is_reason(number, unsent(outcome)))
-}
-
-/// Why nothing was sent at an outlet, where nothing was.
-fn unsent(outcome: &Outcome) -> Option<Reason>
-    ensures { result ≡ unsent outcome.now.sent }
-{
-    match &outcome.sent {
-        Ok(_) => None,
-        Err(reason) => Some(*reason),
-    }
-}
-
-/// Whether a reason has this number.
-fn is_reason(number: u8, reason: Option<Reason>) -> bool
-    ensures { result ≡ is_reason number reason }
-{
-    match reason {
-        Some(reason) => reason.number() == number,
-        None => false,
     }
 }

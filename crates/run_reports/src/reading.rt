@@ -24,7 +24,7 @@ pub fn name_in(text: &[u8]) -> Option<Name>
     }
 }
 
-/// Whether a text can be the name of an event: `7`, `p2:7`, `u:13`, `c:1`, numbers and ports from 1 and 16 ports at most; or
+/// Whether a text can be the name of an event: `7`, `p2:7`, `u:13`, `c:1`, numbers from 1 and ports from 1 to 255; or
 /// asks for the first of a kind: `drop:30`, `drop:any`, `mac:02:00:00:00:00:03`.
 pub fn is_event_name(text: &str) -> bool
     ensures { result ≡ is_event_name text.now }
@@ -47,7 +47,7 @@ fn can_come_from(source: Option<Source>) -> bool
     ensures { result ≡ can_come_from source }
 {
     match source {
-        Some(Source::Tap(Tap::Port(port))) => 1 <= port && port <= 16,
+        Some(Source::Tap(Tap::Port(port))) => 1 <= port,
         _ => true,
     }
 }

@@ -1,15 +1,15 @@
 //! The events that are sought by what they have: of each kind the first.
-ghost use Rattle.std.specs.Prelude.{◌≡◌, ◌++◌, ◌&&◌, ◌||◌, IfOk, OnOk, Some, map, nat_eq, not};
+ghost use Rattle.std.specs.Prelude.{◌≡◌, ◌++◌, ◌&&◌, ◌||◌, IfOk, OnOk, Some, false, map, nat_eq, not, slice_index_or};
 ghost use Rattle.std.specs.List.{list_any};
-ghost use Rattle.endpoint_core.specs.Decision.{octets_of};
 ghost use Rattle.endpoint_core.specs.Kept.{state_of};
 ghost use Rattle.run_reports.specs.Sought.{address_at, address_met, addresses_at, addresses_sought, every_tap};
-ghost use Rattle.run_reports.specs.Sought.{foreseen, is_first, is_new_address, is_new_reason, is_with, numbers_from};
+ghost use Rattle.run_reports.specs.Sought.{foreseen, is_first, is_new_address, is_new_reason, is_new_by, is_with, met_by, numbers_from};
 ghost use Rattle.run_reports.specs.Sought.{numbers_in, passing_of, reason_at, reason_met, reasons_sought};
 
-use crate::passing::{Passing, foreseen, is_for, passing_of, same_address, same_tap};
+use crate::causes::{Causes, is_marked, mark_causes};
+use crate::passing::{Passing, foreseen, passing_of, same_address, same_tap};
 use crate::wanted::{Reasons, address_in, reasons_in};
-use endpoint_core::{Decision, Endpoint};
+use endpoint_core::{Endpoint, Outlets};
 use frame_view::Mac;
 use std::alloc::{AllocError, Global};
 use timeline::{Event, Tap};
@@ -18,7 +18,7 @@ use timeline::{Event, Tap};
 const REASONS: u8 = 40;
 
 /// The most ports of a run.
-const MOST_PORTS: u8 = 16;
+const MOST_PORTS: u8 = 255;
 
 /// A reason for which something isn't sent.
 #[derive(Clone, Copy)]
@@ -47,6 +47,8 @@ pub struct SoughtAddress {
 pub struct Sought {
     pub reasons: Vec<SoughtReason>,
     pub addresses: Vec<SoughtAddress>,
+    /// Where the frame of an event goes, made once for all events.
+    places: Outlets,
 }
 
 impl Sought {
@@ -58,6 +60,7 @@ impl Sought {
         Ok(Sought {
             reasons: read_reasons(alloc, names)?,
             addresses: read_addresses(alloc, names)?,
+            places: Outlets::new(),
         })
     }
 
@@ -69,7 +72,8 @@ impl Sought {
         ensures addresses { self.new.addresses.items
             ≡ map (address_met (passing_of (state_of endpoint.now) event.now.happening)) self.old.addresses.items }
     {
-        let mut is_first = meet_reasons(self.reasons.as_mut_slice(), endpoint, event);
+        let reasons = self.reasons.as_mut_slice();
+        let mut is_first = meet_reasons(reasons, endpoint, event, &mut self.places);
         is_first |= meet_addresses(self.addresses.as_mut_slice(), endpoint, event);
         is_first
     }
@@ -201,15 +205,24 @@ fn address_at(place: usize, address: Mac, tap: Tap) -> SoughtAddress
 }
 
 /// Marks the reasons that an event has, and answers whether it is the first with one.
-fn meet_reasons(reasons: &mut [SoughtReason], endpoint: &Endpoint, event: &Event) -> bool
+fn meet_reasons(
+    reasons: &mut [SoughtReason],
+    endpoint: &Endpoint,
+    event: &Event,
+    places: &mut Outlets,
+) -> bool
     ensures first { result ≡ list_any (is_new_reason (foreseen (state_of endpoint.now) event.now)) reasons.old }
     ensures met { reasons.new ≡ map (reason_met (foreseen (state_of endpoint.now) event.now)) reasons.old }
 {
     if !is_any_open(reasons) {
         return false;
     }
-    match foreseen(endpoint, event) {
-        Some(decision) => mark_reasons(reasons, &decision),
+    match foreseen(endpoint, event, places) {
+        Some(course) => {
+            let mut causes = [false; 256];
+            mark_causes(&mut causes, endpoint, &course, places.as_slice());
+            mark_reasons(reasons, &causes)
+        }
         None => false,
     }
 }
@@ -221,14 +234,14 @@ fn is_any_open(reasons: &[SoughtReason]) -> bool
     reasons.iter().any(|k| !k.is_met)
 }
 
-/// Marks the reasons that a decision has, and answers whether it is the first with one.
-fn mark_reasons(reasons: &mut [SoughtReason], decision: &Decision) -> bool
-    ensures first { result ≡ list_any (is_new_reason (Some (octets_of decision.now))) reasons.old }
-    ensures met { reasons.new ≡ map (reason_met (Some (octets_of decision.now))) reasons.old }
+/// Marks the reasons that an event has by their numbers, and answers whether it is the first with one.
+fn mark_reasons(reasons: &mut [SoughtReason], causes: &Causes) -> bool
+    ensures first { result ≡ list_any (is_new_by (λ n. slice_index_or causes.now n false)) reasons.old }
+    ensures met { reasons.new ≡ map (met_by (λ n. slice_index_or causes.now n false)) reasons.old }
 {
     let mut is_first = false;
     for k in reasons.iter_mut() {
-        if !k.is_met && is_for(k.number, decision) {
+        if !k.is_met && is_marked(causes, k.number) {
             k.is_met = true;
             is_first = true;
         }

@@ -1,6 +1,6 @@
 //! A run into the files of a folder.
 //!
-//! Outputs are written in blocks of 64 KiB, and only where all captures are regular files does a block hold anything back: with
+//! Outputs are written in blocks, and only where all captures are regular files does a block hold anything back: with
 //! a pipe among them, what came of an event has to be out before the next read, which may wait.
 ghost use Rattle.std.specs.Prelude.{◌≡◌, [], All, Ok, IfOk, length};
 ghost use Rattle.overlay_config.specs.Change.{IsRising, changes_in};
@@ -15,16 +15,13 @@ use crate::into_outputs::run_into;
 use crate::run_captures::RunCaptures;
 use program_faults::Failure;
 use program_files::{
-    FailedOutputs, Names, Outputs, PartRecordFile, drop_part, drop_texts, open_outputs,
+    FailedOutputs, Names, Outputs, PartRecordFile, drop_part, drop_texts, open_outputs, see_room,
     spare_inputs,
 };
 use segment_set::SegmentSet;
 use std::io::Input;
 use std::rt::Files;
 use stream_run::{ReadTexts, Sieve, Watch};
-
-/// How many octets of an output are written at once, where no capture's next octets are waited for.
-const BLOCK: usize = 65_536;
 
 /// Runs on captures of which nothing is read yet, with the settings and the changes that the texts mean, into the files of a
 /// folder. Of a part it answers the file in which it is to say what it was made from, and the sums of its outputs.
@@ -66,8 +63,8 @@ pub(crate) fn run_in_folder<'a, R: Files + Input + AllocGlobal, S: Sieve, T: Wat
     }
 }
 
-/// Opens the outputs of so many ports and empties them, where none of them is a file that is read and no capture that can be
-/// looked at begins as none does. What an earlier part left besides is taken away before.
+/// Opens the outputs of so many ports and empties them, where none of them is a file that is read, as many files can be open and
+/// no capture that can be looked at begins as none does. What an earlier part left besides is taken away before.
 fn prepare_outputs<'a, R: Files + Input + AllocGlobal>(
     rt: &R,
     names: Names<'_, 'a>,
@@ -79,6 +76,7 @@ fn prepare_outputs<'a, R: Files + Input + AllocGlobal>(
     ensures in_files { IfOk result (λ outputs. AreHeld R.File.contents (written outputs.ports.items outputs.underlay outputs.decisions)) }
 {
     spare_inputs(rt, folder, names)?;
+    see_room(rt, count.saturating_add(1), count, is_part)?;
     let opened = open_outputs(rt, folder, is_part, count)?;
     see_headers(rt, names)?;
     // What says of outputs that they are a part's goes before they change.
@@ -87,6 +85,6 @@ fn prepare_outputs<'a, R: Files + Input + AllocGlobal>(
     } else {
         drop_part(rt, folder)?;
     }
-    let outputs = opened.emptied(rt.alloc(), BLOCK)?;
+    let outputs = opened.emptied(rt.alloc())?;
     Ok(outputs)
 }

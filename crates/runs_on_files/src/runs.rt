@@ -64,9 +64,10 @@ pub struct Done<F: Drop> {
 /// `told` are the changes that their text means, where it was read before, as [`Texts::changes_read`] answers them: then it
 /// isn't read again.
 ///
-/// Where the settings, the changes or the number of captures are refused, or an output is one of the files that are read,
-/// nothing is made or written; where an output can't be opened, or a capture that is a regular file begins as none does, what
-/// stands in the outputs is kept. All outputs that couldn't be written are noted, wherever it stops.
+/// Where the settings, the changes or the number of captures are refused, an output is one of the files that are read, or more
+/// files would be open at once than the system lets be (of less than 200 that isn't tried), nothing is made or written; where
+/// an output can't be opened, or a capture that is a regular file begins as none does, what stands in the outputs is kept. All
+/// outputs that couldn't be written are noted, wherever it stops.
 pub fn run_on_files<'a, R: Files + Input + AllocGlobal, S: Sieve, T: Watch>(
     rt: &R,
     names: Names<'_, 'a>,

@@ -2,6 +2,7 @@ pub mod Addresses
 pub mod Changes
 pub mod Floods
 pub mod FrameRefusals
+pub mod Neighbours
 pub mod PacketRefusals
 pub mod PacketTests
 pub mod Refusals

@@ -1,7 +1,10 @@
 -- What is told by the text of a change, and by the facts of a flood. It states no standard.
 --     IsSound      the values of a change are such as its types have
+--     one_by_one      a fact of a flood about several ports, as one of each port
 --     place_told      the place that a fact of a flood is about
-use Rattle.std.specs.Prelude.{◌≡◌, ◌<◌, ⊤, ℕ, ◌^◌, List, [], ◌∷◌, length, Option, Some, None}
+--     AreApart      no two facts that follow each other could be one
+use Rattle.std.specs.Prelude.{◌≡◌, ◌<◌, ⊤, ℕ, ◌+◌, ◌-◌, ◌^◌, List, [], ◌∷◌, map, length, Option, Some, None}
+use Rattle.std.specs.List.{range_with_len}
 use Rattle.header_octets.specs.Octets.{IsText}
 use Rattle.ip_udp_view.specs.Addr.{IsAddr}
 use Rattle.filter_db.specs.declared.place.Place.{Place}
@@ -14,6 +17,7 @@ use Rattle.overlay_settings.specs.declared.change.Change.TheVariants.{Flush, Add
 use Rattle.overlay_settings.specs.declared.change.Target.{Target}
 use Rattle.overlay_settings.specs.declared.change.Target.TheVariants as target
 use Rattle.change_story.specs.Change.{other_kind}
+use Rattle.event_story.specs.Neighbours.{joined}
 use Rattle.event_story.specs.declared.fact.Fact.{Fact}
 use Rattle.event_story.specs.declared.fact.Fact.TheVariants as facts
 
@@ -57,10 +61,26 @@ IsSound (SetLimit vid limit) = IsNumber vid × IsNumber limit
 
 -- ---- floods
 
--- the place that is told as left out
+-- the ports from one number to another
+abbrev pub ports_between : ℕ → ℕ → List ℕ
+ports_between first last = range_with_len first (last + 1 - first)
+
+-- a fact of several ports as one of each of them; any other as it is
+abbrev pub one_by_one : Fact → List Fact
+one_by_one (facts.PortsDown first last) = map (λ port. facts.PortsDown port port) (ports_between first last)
+one_by_one (facts.NoMembers first last) = map (λ port. facts.NoMembers port port) (ports_between first last)
+one_by_one fact = fact ∷ []
+
+-- the place that a fact of one place tells as left out
 abbrev pub place_told : Fact → Option Place
 place_told (facts.Same place) = Some place
 place_told (facts.Horizon place) = Some place
-place_told (facts.Port port up) = Some (Local port)
-place_told (facts.Member port egress) = Some (Local port)
+place_told (facts.PortsDown first last) = Some (Local first)
+place_told (facts.NoMembers first last) = Some (Local first)
 place_told fact = None
+
+-- no fact could be one with the one behind it
+abbrev pub AreApart : List Fact → Type 0
+AreApart [] = ⊤
+AreApart (f ∷ []) = ⊤
+AreApart (f ∷ g ∷ fs) = (joined f g ≡ None) × AreApart (g ∷ fs)

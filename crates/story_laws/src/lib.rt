@@ -7,9 +7,11 @@
 //! Specs to read: `specs/Told`, `specs/Refusing`.
 //!
 //! Proved: two changes with one text are one change. A flood leaves by just those places of which its story doesn't tell why
-//! they are left out, and it tells that of each other place, both in the order of the places. Of the tests of a frame or a
-//! packet those are told that come up to the one that refuses it, which is the last, or all where none does. Of the facts that
-//! are told of the tests the last one's value refuses, and no other, where the frame or packet is refused; none where it isn't.
+//! they are left out, and it tells that of each other place, both in the order of the places; of a segment of up to 16 ports each
+//! place has a fact of its own, and of more the ports that follow each other and are left out for the same cause have one. Of the
+//! tests of a frame or a packet those are told that come up to the one that refuses it, which is the last, or all where none
+//! does. Of the facts that are told of the tests the last one's value refuses, and no other, where the frame or packet is
+//! refused; none where it isn't.
 #![tactic(auto)]
 
 pub mod laws;

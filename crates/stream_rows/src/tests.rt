@@ -1,4 +1,5 @@
 mod failing;
+mod many_ports;
 mod rows;
 mod run;
 mod same;

@@ -84,7 +84,7 @@ pub first_change : (changes : List TimedChange) → AreTimely changes → IsMome
 first_change [] timely = tt
 first_change (c ∷ changes) timely = timely.moments c 0 (omega arith)
 
-pub ready_first : (changes : List TimedChange) (ports : List Stream) (underlay : Stream) (s : Settings) (state : State) (d : Drains) → AreTimely changes → length ports ≤ 16 → length ports ≡ length s.ports
+pub ready_first : (changes : List TimedChange) (ports : List Stream) (underlay : Stream) (s : Settings) (state : State) (d : Drains) → AreTimely changes → length ports ≤ 255 → length ports ≡ length s.ports
     → state ≡ opened (settings_told s) → AreReady changes 0 (run_at ports underlay (first_turns changes (length ports + 1)) state 0 d)
 ready_first changes ports underlay s state d timely few known is = rw is (record {
   timely = timely;
@@ -106,7 +106,7 @@ ready_first changes ports underlay s state d timely few known is = rw is (record
     within (Port p) index at = omega (arith, at.0, at.2, size)
     within Underlay index at = omega (arith, at, size)
 
-pub ready_begun : (changes : List TimedChange) (ports : List Stream) (underlay : Stream) (s : Settings) (state : State) (d : Drains) (turns : List Turn) → AreTimely changes → length ports ≤ 16 → length ports ≡ length s.ports
+pub ready_begun : (changes : List TimedChange) (ports : List Stream) (underlay : Stream) (s : Settings) (state : State) (d : Drains) (turns : List Turn) → AreTimely changes → length ports ≤ 255 → length ports ≡ length s.ports
     → state ≡ opened (settings_told s) → turns ≡ first_turns changes (length ports + 1) → AreReady changes 0 (run_at ports underlay turns state 0 d)
 ready_begun changes ports underlay s state d turns timely few known is begun =
     subst (λ ts. AreReady changes 0 (run_at ports underlay ts state 0 d)) (sym begun) (ready_first changes ports underlay s state d timely few known is)

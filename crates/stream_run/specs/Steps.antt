@@ -95,7 +95,7 @@ AreBehind m turns = (t : Turn) (k : ℕ) → k < length turns → IsNoSooner m (
 pub record AreReady (changes : List TimedChange) (count : ℕ) (r : Run) : Type 0 where
   pub timely : AreTimely changes
   pub size : length r.turns ≡ length r.ports + 2
-  pub few : length r.ports ≤ 16
+  pub few : length r.ports ≤ 255
   pub known : length r.ports ≡ length r.state.bridges.settings.ports.ports
   pub behind : AreBehind r.state.moment r.turns
   pub moments : (t : Turn) (k : ℕ) → k < length r.turns → IsMoment (slice_index_or r.turns k t).next

@@ -22,9 +22,9 @@ use Rattle.stream_run.specs.declared.fault.Halt.TheVariants as halt
 use Rattle.stream_run.specs.declared.fault.StreamFault.{StreamFault}
 use Rattle.stream_run.specs.declared.fault.StreamFault.TheVariants as stream
 
--- the captures of the ports hold nothing back; no run has more than sixteen
+-- the captures of the ports hold nothing back; no run has more than 255
 abbrev pub PortsOut : List Drain → Type 0
-PortsOut ports = (x : Drain) (k : ℕ) → k < length ports → k < 16 → (slice_index_or ports k x).held ≡ []
+PortsOut ports = (x : Drain) (k : ℕ) → k < length ports → k < 255 → (slice_index_or ports k x).held ≡ []
 
 -- no output holds anything back: what was written stands outside
 pub record AllOut (d : Drains) : Type 0 where

@@ -26,7 +26,7 @@ use std::alloc::{AllocError, Global};
 /// Writes the header of the capture of the port with this index, from 0.
 fn begin_port<W: Output>(outputs: &mut Outputs<W>, index: usize) -> Result<(), Target>
     requires there { index < length outputs.old.ports }
-    requires few { index < 16 }
+    requires few { index < 255 }
     ensures begun { (start : Drains) (o : Texts) → StandAt start outputs.old o
         → Lead start outputs.new o (record o
         { ports = slice_set o.ports index (slice_index_or o.ports index [] ++ written_header) }) result }
@@ -51,7 +51,7 @@ fn begin_underlay<W: Output>(outputs: &mut Outputs<W>) -> Result<(), Target>
 
 /// Writes the headers of the ports' captures, rising, and then that of the underlay's.
 fn put_headers<W: Output>(outputs: &mut Outputs<W>) -> Result<(), Target>
-    requires { length outputs.old.ports ≤ 16 }
+    requires { length outputs.old.ports ≤ 255 }
     ensures { (start : Drains) → StandAt start outputs.old (no_texts (length outputs.old.ports))
         → Lead start outputs.new (no_texts (length outputs.old.ports)) (empty_outputs (length outputs.old.ports)) result }
 {
@@ -65,7 +65,7 @@ fn put_headers<W: Output>(outputs: &mut Outputs<W>) -> Result<(), Target>
 
 /// The same, and hands them on where the reads behind may wait.
 pub fn begin_all<W: Output>(outputs: &mut Outputs<W>, may_wait: bool) -> Result<(), Target>
-    requires { length outputs.old.ports ≤ 16 }
+    requires { length outputs.old.ports ≤ 255 }
     ensures begun { (start : Drains) → StandAt start outputs.old (no_texts (length outputs.old.ports))
         → Lead start outputs.new (no_texts (length outputs.old.ports)) (empty_outputs (length outputs.old.ports)) result }
     ensures out { OnOk result (may_wait ≡ true → AllOut outputs.new) }
@@ -105,7 +105,7 @@ pub fn fetch_all<R: Input, W: Output>(
     outputs: &Outputs<W>,
     turns: &mut [Turn],
 ) -> Result<(), StreamFault>
-    requires few { length captures.old.ports.items ≤ 16 }
+    requires few { length captures.old.ports.items ≤ 255 }
     requires size { length turns.old ≡ length captures.old.ports.items + 2 }
     requires open { (place : ATap) (index : ℕ) → IsAt (length captures.old.ports.items) index place
         → IsOpen (source_at captures.old.ports.items captures.old.underlay place).standing }

@@ -42,7 +42,7 @@ fn put_cuts<R: Input, W: Output>(
     line: &mut Line,
     outputs: &mut Outputs<W>,
 ) -> Result<(), Target>
-    requires few { length captures.now.ports.items ≤ 16 }
+    requires few { length captures.now.ports.items ≤ 255 }
     requires turns { length turns.now ≡ length captures.now.ports.items + 2 }
     ensures { (start : Drains) (o : Texts) → StandAt start outputs.old o
         → Lead start outputs.new o (with_cuts o (cuts_at captures.now.ports.items captures.now.underlay turns.now)) result }
@@ -75,7 +75,7 @@ pub fn put_cuts_among<R: Input, W: Output>(
     line: &mut Line,
     outputs: &mut Outputs<W>,
 ) -> Result<(), Target>
-    requires few { length captures.now.ports.items ≤ 16 }
+    requires few { length captures.now.ports.items ≤ 255 }
     requires turns { length turns.now ≡ length captures.now.ports.items + 2 }
     ensures { (start : Drains) (o : Texts) → StandAt start outputs.old o
         → Lead start outputs.new o (with_cuts o

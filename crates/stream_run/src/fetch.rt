@@ -57,7 +57,7 @@ pub fn fetch_at<R: Input, W: Output>(
     next: &mut Option<u64>,
 ) -> Result<(), SourceFault>
     requires index { index ≤ length captures.old.ports.items + 1 }
-    requires few { length captures.old.ports.items ≤ 16 }
+    requires few { length captures.old.ports.items ≤ 255 }
     requires open { (place : ATap) → IsAt (length captures.old.ports.items) index place
         → IsOpen (source_at captures.old.ports.items captures.old.underlay place).standing }
     requires out { IsOutBefore captures.old.may_wait captures.old.ports.items captures.old.underlay index _outputs.now }
@@ -97,7 +97,7 @@ pub fn takes_read<R: Input>(captures: &Captures<R>, index: usize) -> bool
 
 /// Where the source with this index stands, behind the changes: one of so many ports, or the underlay.
 pub fn tap_at(ports: usize, index: usize) -> Tap
-    requires few { ports ≤ 16 }
+    requires few { ports ≤ 255 }
     requires index { index ≤ ports + 1 }
     ensures { index ≢ 0 → IsAt ports index result }
 {

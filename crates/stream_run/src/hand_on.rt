@@ -1,10 +1,10 @@
 //! What outputs hold back, handed on between events: the captures first and the lines behind them, so that no line leaves
 //! before the records of its event.
 //!
-//! The lines' block goes on only behind those of all captures: where it has no room for one line more, 4,096 octets, all blocks
-//! are handed on, the captures' first, behind the event that was taken. So a run that is killed, or a full disk, leaves no line
-//! without its records. It costs one comparison an event. A capture whose own block is full goes on alone, since records
-//! without their line harm nobody.
+//! The lines' block goes on only behind those of all captures: where it has no room for one line more, 4,096 octets with up to
+//! 16 ports and 59,134 with more, all blocks are handed on, the captures' first, behind the event that was taken. So a run that
+//! is killed, or a full disk, leaves no line without its records. It costs one comparison an event. A capture whose own block is
+//! full goes on alone, since records without their line harm nobody.
 //!
 //! Where a read may wait, all blocks go on before each: behind an event whose source's next record wasn't read ahead whole. So
 //! whenever a run waits, everything that was decided stands outside, and a pipe that runs full costs this once for each 64 KiB.
@@ -29,18 +29,16 @@ use crate::outputs::Outputs;
 use crate::part::{Next, Part, Taker};
 use crate::take::take_at;
 use crate::watch::Watch;
+use decision_lines::most_of_a_line;
 use pcap_stream::{Input, Output};
 
-/// No line is longer, and the lines of all cut captures together aren't.
-const MOST_OF_A_LINE: usize = 4_096;
-
 /// How many ports a run has at most.
-const MOST_PORTS: usize = 16;
+const MOST_PORTS: usize = 255;
 
 /// Hands on what the capture of the port with this index, from 0, holds back.
 fn hand_on_port<W: Output>(outputs: &mut Outputs<W>, index: usize) -> Result<(), Target>
     requires there { index < length outputs.old.ports }
-    requires few { index < 16 }
+    requires few { index < 255 }
     ensures handed { (start : Drains) (o : Texts) → StandAt start outputs.old o → Lead start outputs.new o o result }
     ensures many { length outputs.new.ports ≡ length outputs.old.ports }
     ensures out { OnOk result ((x : Drain) → (slice_index_or outputs.new.ports index x).held ≡ []) }
@@ -140,7 +138,10 @@ fn has_to_hand_on<R: Input, W: Output>(
     ensures before { result ≡ false → IsOutBefore captures.now.may_wait captures.now.ports.items captures.now.underlay index outputs.now }
     ensures behind { result ≡ false → IsOutOrAll takes_all captures.now.may_wait outputs.now }
 {
-    if outputs.decisions.must_hand_on(MOST_OF_A_LINE) {
+    if outputs
+        .decisions
+        .must_hand_on(most_of_a_line(captures.ports.len()))
+    {
         return true;
     }
     may_wait_behind(captures, index, takes_all)
@@ -161,7 +162,7 @@ pub fn take_and_hand_on<R: Input, W: Output, T: Watch>(
     requires moment { next.moment ≤ last_moment }
     requires count { next.done + 1 < 2 ^ 64 }
     requires index { next.index ≤ length captures.now.ports.items + 1 }
-    requires few { length captures.now.ports.items ≤ 16 }
+    requires few { length captures.now.ports.items ≤ 255 }
     requires known { length captures.now.ports.items ≡ length (state_of taker.old.endpoint).bridges.settings.ports.ports }
     requires change { next.index ≡ 0 → moment_at part.now.changes.now next.done ≡ Some next.moment }
     requires lent { (place : ATap) → IsAt (length captures.now.ports.items) next.index place

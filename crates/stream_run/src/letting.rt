@@ -66,7 +66,7 @@ fn packet_event<R: Input>(source: &Source<R>, next: Next) -> Event<'_>
 fn next_event<R: Input>(captures: &Captures<R>, next: Next) -> Event<'_>
     requires count { next.done + 1 < 2 ^ 64 }
     requires index { next.index ≤ length captures.now.ports.items + 1 }
-    requires few { length captures.now.ports.items ≤ 16 }
+    requires few { length captures.now.ports.items ≤ 255 }
     requires lent { (place : ATap) → IsAt (length captures.now.ports.items) next.index place
         → IsSome (lent (source_at captures.now.ports.items captures.now.underlay place).standing) }
     ensures { IsNextEvent captures.now.ports.items captures.now.underlay next.index next.done next.moment result }
@@ -100,7 +100,7 @@ pub fn let_in<R: Input, W: Output, S: Sieve, T: Watch>(
     requires count { next.done + 1 < 2 ^ 64 }
     requires numbers { taker.old.desk.number + 1 < 2 ^ 64 }
     requires index { next.index ≤ length captures.now.ports.items + 1 }
-    requires few { length captures.now.ports.items ≤ 16 }
+    requires few { length captures.now.ports.items ≤ 255 }
     requires known { length captures.now.ports.items ≡ length (state_of taker.old.endpoint).bridges.settings.ports.ports }
     requires change { next.index ≡ 0 → moment_at part.now.changes.now next.done ≡ Some next.moment }
     requires lent { (place : ATap) → IsAt (length captures.now.ports.items) next.index place

@@ -32,7 +32,7 @@ pub fn open_capture<R: Input>(source: &mut Source<R>, tap: Tap) -> Result<(), St
 fn open_at<R: Input>(captures: &mut Captures<R>, index: usize) -> Result<(), StreamFault>
     requires first { 1 ≤ index }
     requires index { index ≤ length captures.old.ports.items + 1 }
-    requires few { length captures.old.ports.items ≤ 16 }
+    requires few { length captures.old.ports.items ≤ 255 }
     requires new { (place : ATap) → IsAt (length captures.old.ports.items) index place
         → IsUnread (source_at captures.old.ports.items captures.old.underlay place) }
     ensures opened { OpensAt index captures.old.ports.items captures.old.underlay captures.new.ports.items captures.new.underlay result }
@@ -47,7 +47,7 @@ fn open_at<R: Input>(captures: &mut Captures<R>, index: usize) -> Result<(), Str
 
 /// Opens the captures of the ports, rising, and then that of the underlay.
 pub fn open_all<R: Input>(captures: &mut Captures<R>) -> Result<(), StreamFault>
-    requires few { length captures.old.ports.items ≤ 16 }
+    requires few { length captures.old.ports.items ≤ 255 }
     requires new_ports { All IsUnread captures.old.ports.items }
     requires new_underlay { IsUnread captures.old.underlay }
     ensures opened { OpensInTurn captures.old.ports.items captures.old.underlay captures.new.ports.items captures.new.underlay result }

@@ -113,7 +113,7 @@ fn put_local<W: Output>(
     requires moment { leaving.now.moment ≤ last_moment }
     requires leave { IsTrue (can_leave (state_of leaving.now.endpoint.now).bridges.settings leaving.now.came.now.vid (Local port)) }
     requires short { length leaving.now.came.now.frame.body ≤ 65549 }
-    requires room { length line.old + 77 ≤ 4096 }
+    requires room { length line.old + 77 ≤ 65536 }
     ensures sent { let S = (state_of leaving.now.endpoint.now).bridges.settings in
         (start : Drains) (o : Texts) → StandAt start outputs.old o
         → Lead start outputs.new o (with_sent leaving.now.moment o
@@ -160,7 +160,7 @@ fn put_remote<W: Output>(
     requires there { IsSome (segment_at (state_of leaving.now.endpoint.now).bridges.settings leaving.now.came.now.vid) }
     requires leave { IsTrue (can_leave (state_of leaving.now.endpoint.now).bridges.settings leaving.now.came.now.vid (Remote kind addr)) }
     requires short { length leaving.now.came.now.frame.body ≤ 65549 }
-    requires room { length line.old + 77 ≤ 4096 }
+    requires room { length line.old + 77 ≤ 65536 }
     ensures sent { let S = (state_of leaving.now.endpoint.now).bridges.settings in
         (start : Drains) (o : Texts) → StandAt start outputs.old o
         → Lead start outputs.new o (with_sent leaving.now.moment o
@@ -207,7 +207,7 @@ fn put_place<W: Output>(
     requires there { IsSome (segment_at (state_of leaving.now.endpoint.now).bridges.settings leaving.now.came.now.vid) }
     requires leave { IsTrue (can_leave (state_of leaving.now.endpoint.now).bridges.settings leaving.now.came.now.vid place.now) }
     requires short { length leaving.now.came.now.frame.body ≤ 65549 }
-    requires room { length line.old + 77 ≤ 4096 }
+    requires room { length line.old + 77 ≤ 65536 }
     ensures sent { let S = (state_of leaving.now.endpoint.now).bridges.settings in
         (start : Drains) (o : Texts) → StandAt start outputs.old o
         → Lead start outputs.new o (with_sent leaving.now.moment o
@@ -239,7 +239,7 @@ fn put_places<W: Output>(
     requires leave { IsTrue (list_all (can_leave (state_of leaving.now.endpoint.now).bridges.settings leaving.now.came.now.vid)
         places.now) }
     requires short { length leaving.now.came.now.frame.body ≤ 65549 }
-    requires few { length places.now ≤ 32 }
+    requires few { length places.now ≤ 767 }
     requires room { length line.old ≤ 74 }
     ensures sent { let S = (state_of leaving.now.endpoint.now).bridges.settings in
         (start : Drains) (o : Texts) → StandAt start outputs.old o

@@ -264,7 +264,7 @@ fn run_with<R: Input, W: Output, S: Sieve, T: Watch>(
     sieve: &mut S,
     watch: &mut T,
 ) -> Result<(), StreamFault>
-    requires few { length captures.old.ports.items ≤ 16 }
+    requires few { length captures.old.ports.items ≤ 255 }
     requires ports { length captures.old.ports.items ≡ length settings.ports }
     requires sinks { length outputs.old.ports ≡ length captures.old.ports.items }
     requires timely { AreTimely part.now.changes.now }
@@ -308,7 +308,7 @@ fn run_on<R: Input, W: Output, S: Sieve, T: Watch>(
     sieve: &mut S,
     watch: &mut T,
 ) -> Result<(), StreamFault>
-    requires few { length captures.old.ports.items ≤ 16 }
+    requires few { length captures.old.ports.items ≤ 255 }
     requires opened { CanBegin captures.old.ports.items (state_of taker.old.endpoint) }
     requires turns { turns.old ≡ first_turns part.now.changes.now (length captures.old.ports.items + 1) }
     requires number { taker.old.desk.number ≡ 0 }

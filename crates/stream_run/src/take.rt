@@ -238,7 +238,7 @@ pub fn take_at<R: Input, W: Output, T: Watch>(
     requires moment { next.moment ≤ last_moment }
     requires count { next.done + 1 < 2 ^ 64 }
     requires index { next.index ≤ length captures.now.ports.items + 1 }
-    requires few { length captures.now.ports.items ≤ 16 }
+    requires few { length captures.now.ports.items ≤ 255 }
     requires known { length captures.now.ports.items ≡ length (state_of taker.old.endpoint).bridges.settings.ports.ports }
     requires change { next.index ≡ 0 → moment_at part.now.changes.now next.done ≡ Some next.moment }
     requires lent { (place : ATap) → IsAt (length captures.now.ports.items) next.index place

@@ -4,15 +4,13 @@ use crate::notes::tell_notes;
 use crate::refusals::{tell_part_capture, tell_pcapng, tell_refused};
 use command_line::{Line, STANDARD_INPUT, capture_name};
 use part_merge::PartFault;
+use part_record::MOST_PORTS;
 use program_faults::{Failure, OneLine, OutputFile, PartFailure, SplitFailure, SystemFault};
 use program_files::{FailedOutput, file_of, is_same, path_of, read_fault};
 use std::alloc::AllocError;
 use std::fs;
 use std::io::ErrorKind;
 use std::rt::Files;
-
-/// The most ports that a run has.
-const MOST_PORTS: usize = 16;
 
 /// The texts of a part that a merge reads first.
 const PART_TEXTS: [OutputFile; 3] = [

@@ -4,6 +4,7 @@
 //! first fault in the order of its lines.
 use crate::echoes::{RecordCounts, print_echoes};
 use crate::interfaces::missing_interface;
+use crate::open_files::open_files_line;
 use crate::swapped::swapped_lines;
 use capture_run::RunFault;
 use capture_survey::{Report, SurveyFault, survey_capture};
@@ -87,7 +88,7 @@ pub fn check<'a, R: Files + Input + AllocGlobal + Print>(
 
 /// Prints what is in the texts of these names, where so many ports' captures are named. It answers the fault of a text that is
 /// refused.
-fn look_at_texts<R: AllocGlobal + Print>(
+fn look_at_texts<R: Files + AllocGlobal + Print>(
     rt: &R,
     settings: &str,
     changes: Option<&str>,
@@ -110,7 +111,7 @@ fn look_at_texts<R: AllocGlobal + Print>(
             return Err(Failure::Run(fault));
         }
     };
-    let counted = print_counts(rt, &read, told.as_slice());
+    let counted = print_counts(rt, &read, told.as_slice()).and(print_open_files(rt, &read));
     Ok(Seen {
         found: see_count(read.ports().len(), captures),
         told: counted.and(print_foreseen(rt, read, told)),
@@ -134,6 +135,17 @@ fn print_counts<R: AllocGlobal + Print>(
 ) -> Result<(), Failure<'static>> {
     let line = check_read(rt.alloc(), settings, changes)?;
     print_text(rt, line.as_slice())
+}
+
+/// Prints how many files a run with these settings opens at once, where so many can't be open.
+fn print_open_files<R: Files + AllocGlobal + Print>(
+    rt: &R,
+    settings: &Settings,
+) -> Result<(), Failure<'static>> {
+    match open_files_line(rt, settings.ports().len())? {
+        Some(line) => print_text(rt, line.as_bytes()),
+        None => Ok(()),
+    }
 }
 
 /// Prints where the text is refused that a fault tells of, and why.

@@ -29,6 +29,7 @@ mod named;
 mod next_steps;
 mod nobody;
 mod notes;
+mod open_files;
 mod opened;
 mod outbound;
 mod paired;

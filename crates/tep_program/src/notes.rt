@@ -2,14 +2,12 @@
 use crate::interfaces::{missing_interface, several_interfaces};
 use crate::named::folder_of;
 use command_line::Line;
+use part_record::MOST_PORTS;
 use program_faults::{OneLine, OutputFile};
 use program_files::path_of;
 use std::alloc::AllocError;
 use std::fs;
 use std::rt::Files;
-
-/// The most ports that a run has.
-const MOST_PORTS: usize = 16;
 
 /// Tells of a line that is done which names of interfaces have none, and which outputs of an earlier run lie there. Where
 /// memory is refused for that, it isn't told.
@@ -64,7 +62,7 @@ fn tell_missing<R: Files + AllocGlobal + Eprint>(rt: &R, name: &str) -> Result<(
 }
 
 /// How many ports the part in this folder has.
-fn ports_in<R: Files + AllocGlobal>(rt: &R, folder: &str) -> Result<usize, AllocError> {
+pub(crate) fn ports_in<R: Files + AllocGlobal>(rt: &R, folder: &str) -> Result<usize, AllocError> {
     for index in 0..MOST_PORTS {
         let path = path_of(rt.alloc(), folder, OutputFile::Port(index + 1))?;
         if fs::metadata(rt, path.as_path()).is_err() {

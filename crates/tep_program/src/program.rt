@@ -11,6 +11,7 @@ use crate::compared::{Compared, compare};
 use crate::directions::within_of;
 use crate::next_steps::tell_next_step;
 use crate::notes::tell_notes;
+use crate::open_files::tell_open_files;
 use crate::told_runs::{Asked, run_and_tell};
 use crate::unknown_table::{no_table, no_table_name};
 use crate::worked::{Worked, compare_worked};
@@ -140,6 +141,7 @@ fn performed<'a, R: Files + Input + AllocGlobal + Print + Eprint>(rt: &R, line: 
             tell_causes(rt, line, &failure);
             tell_failed_besides(rt, line, &failure, failed.as_slice());
             tell_next_step(rt, line, &failure);
+            tell_open_files(rt, line, &failure);
             status
         }
     }

@@ -10,7 +10,7 @@ use crate::known::{TextKind, fits};
 pub type Sentence = (&'static str, &'static str, &'static str, &'static str);
 
 /// What is allowed under each key of settings.
-pub const SETTINGS_SENTENCES: [Sentence; 53] = [
+pub const SETTINGS_SENTENCES: [Sentence; 61] = [
     (
         "version",
         "",
@@ -27,7 +27,7 @@ pub const SETTINGS_SENTENCES: [Sentence; 53] = [
         "pool",
         "3",
         "",
-        "a number, 1 to 65536, or to limits.addresses where it is given; limits.addresses raises it, up to 262144",
+        "a number, 1 to 65536, or to limits.addresses where it is given; limits.addresses raises it, up to 1048576",
     ),
     (
         "pool",
@@ -39,7 +39,7 @@ pub const SETTINGS_SENTENCES: [Sentence; 53] = [
         "limit",
         "3",
         "",
-        "the limits of all segments sum to 65536 at most, or to limits.addresses where it is given; limits.addresses raises it, up to 262144",
+        "the limits of all segments sum to 65536 at most, or to limits.addresses where it is given; limits.addresses raises it, up to 1048576",
     ),
     (
         "limit",
@@ -48,9 +48,11 @@ pub const SETTINGS_SENTENCES: [Sentence; 53] = [
         "the limits of all segments sum to 65536 at most; version 3 with limits.addresses raises it",
     ),
     ("limits", "", "", "one table, headed [limits]"),
+    ("limits.ports", "", "", "a number, 1 to 255"),
     ("limits.segments", "", "", "a number, 1 to 4094"),
+    ("limits.hops", "", "", "a number, 1 to 4096"),
     ("limits.entries", "", "", "a number, 1 to 131072"),
-    ("limits.addresses", "", "", "a number, 1 to 262144"),
+    ("limits.addresses", "", "", "a number, 1 to 1048576"),
     ("underlay", "", "", "one table, headed [underlay]"),
     (
         "underlay.mac",
@@ -97,6 +99,24 @@ pub const SETTINGS_SENTENCES: [Sentence; 53] = [
     ),
     (
         "underlay.hop",
+        "3",
+        "OverLimit ",
+        "at most 64 tables with addr and mac, or as many as limits.hops says where it is given, each headed [[underlay.hop]]; limits.hops raises it, up to 4096",
+    ),
+    (
+        "underlay.hop",
+        "",
+        "OverLimit ",
+        "at most 64 tables with addr and mac, each headed [[underlay.hop]]; version 3 with limits.hops raises it",
+    ),
+    (
+        "underlay.hop",
+        "3",
+        "",
+        "at most 64 tables with addr and mac, or as many as limits.hops says where it is given, each headed [[underlay.hop]]",
+    ),
+    (
+        "underlay.hop",
         "",
         "",
         "at most 64 tables with addr and mac, each headed [[underlay.hop]]",
@@ -112,6 +132,24 @@ pub const SETTINGS_SENTENCES: [Sentence; 53] = [
         "",
         "",
         "a MAC address in quotes that is no group's, as \"02:00:00:00:00:01\"",
+    ),
+    (
+        "port",
+        "3",
+        "OverLimit ",
+        "1 to 16 tables, or to limits.ports where it is given, each headed [[port]]; limits.ports raises it, up to 255",
+    ),
+    (
+        "port",
+        "",
+        "OverLimit ",
+        "1 to 16 tables, each headed [[port]]; version 3 with limits.ports raises it",
+    ),
+    (
+        "port",
+        "3",
+        "",
+        "1 to 16 tables, or to limits.ports where it is given, each headed [[port]]",
     ),
     ("port", "", "", "1 to 16 tables, each headed [[port]]"),
     ("port.pvid", "", "", "a number, 1 to 4094"),

@@ -21,7 +21,11 @@ pub const SETTINGS_KEYS: [TableKeys; 11] = [
         &["version", "pool", "limits", "underlay", "port", "segment"],
     ),
     ("*", "", &["version", "pool", "underlay", "port", "segment"]),
-    ("limits.*", "", &["segments", "entries", "addresses"]),
+    (
+        "limits.*",
+        "",
+        &["ports", "segments", "hops", "entries", "addresses"],
+    ),
     (
         "underlay.*",
         "3",

@@ -1,4 +1,5 @@
 pub mod Bridge
+pub mod Members
 pub mod Once
 pub mod Outlets
 pub mod Verdict

@@ -7,9 +7,9 @@ use filter_db::Place;
 use std::marker::Model;
 
 /// The most places that a frame leaves by.
-const MOST: usize = 32;
+const MOST: usize = 767;
 
-/// The places that a frame leaves by, in order, none of them twice: at most 16 local ports and 16 remotes. It is emptied and
+/// The places that a frame leaves by, in order, none of them twice: at most 255 local ports and 512 remotes. It is emptied and
 /// put together again for each frame, and what stood there isn't overwritten when it is emptied.
 #[derive(Debug, Drop)]
 pub struct Outlets {
@@ -25,7 +25,7 @@ impl Model for Outlets {
 
     ghost view = { λ o. record { items = take o.len o.places } };
 
-    ghost invariant = { λ o. o.len ≤ 32 };
+    ghost invariant = { λ o. o.len ≤ 767 };
 }
 
 impl Outlets {
@@ -47,10 +47,10 @@ impl Outlets {
         self.len = 0;
     }
 
-    /// Puts a place behind the others, of which there are less than 32.
+    /// Puts a place behind the others, of which there are less than 767.
     #[inline]
     pub fn push(&mut self, place: Place)
-        requires room { length self.old.items < 32 }
+        requires room { length self.old.items < 767 }
         ensures items { self.new.items ≡ self.old.items ++ place ∷ [] }
         ensures len { length self.new.items ≡ length self.old.items + 1 }
     {
@@ -71,7 +71,7 @@ impl Outlets {
     #[inline]
     pub fn as_slice(&self) -> &[Place]
         ensures value { result.now ≡ self.now.items }
-        ensures fits { length result.now ≤ 32 }
+        ensures fits { length result.now ≤ 767 }
     {
         &self.places[..self.len]
     }

@@ -7,6 +7,7 @@ ghost use Rattle.tunnel_learning.specs.Bridge.{remote_places, to_place, toward};
 ghost use Rattle.vlan_ports.specs.Row.{row_at};
 ghost use Rattle.tunnel_learning.specs.declared.bridge.Bridge.{Bridge as ABridge};
 ghost use Rattle.filter_db.specs.declared.place.Place.TheVariants.{Local};
+ghost use Rattle.tunnel_learning.specs.Members.{IsMember};
 ghost use Rattle.tunnel_learning.specs.Verdict.{put_or};
 
 use crate::{Bridge, Outlets};
@@ -112,28 +113,25 @@ fn everywhere(bridge: &Bridge, from: &Place, places: &mut Outlets) -> Result<(),
 fn put_local(bridge: &Bridge, from: &Place, places: &mut Outlets)
     requires { length places.old.items ≤ 0 }
     ensures items { places.new.items ≡ places.old.items ++ local_places (config_of bridge.now) from.now }
-    ensures few { length places.new.items ≤ 16 }
+    ensures few { length places.new.items ≤ 255 }
 {
     let row = bridge.ports.row(bridge.vid);
-    for number in 0..bridge.ports.ports() {
-        let port = number + 1;
+    let mut members = row.members();
+    while let Some(port) = members.next() {
         if is_local_outlet(&row, from, port) {
             places.push(Place::Local(port));
         }
     }
 }
 
-/// Whether a flood of a frame from a place goes to a local port, by the row of the bridge's segment. The port is 1 to how many
-/// there are.
+/// Whether a flood of a frame from a place goes to a member, by the row of the bridge's segment.
 #[inline(always)]
 fn is_local_outlet(row: &Row, from: &Place, port: u8) -> bool
-    requires low { 1 ≤ port }
-    requires high { port ≤ length row.now.ports }
-    requires few { port ≤ 16 }
+    requires { IsMember row.now port }
     ensures { (bridge : ABridge) → row.now ≡ row_at bridge.ports.now bridge.vid
         → result ≡ is_local_outlet (config_of bridge) from.now (Local port) }
 {
-    if !row.serves(port) {
+    if !row.is_up(port) {
         return false;
     }
     !Place::Local(port).is_same(*from)
@@ -141,7 +139,7 @@ fn is_local_outlet(row: &Row, from: &Place, port: u8) -> bool
 
 /// Puts the remotes of the flood list but those of the horizon group that the frame came from, in its order.
 fn put_remote(bridge: &Bridge, from: &Place, places: &mut Outlets)
-    requires { length places.old.items ≤ 16 }
+    requires { length places.old.items ≤ 255 }
     ensures { places.new.items ≡ places.old.items ++ remote_places (config_of bridge.now) from.now }
 {
     for target in bridge.flood.targets() {

@@ -1,4 +1,5 @@
 mod emission_tests;
+mod hop_tests;
 mod layer_values_tests;
 mod packets;
 mod underlay_tests;

@@ -1,5 +1,5 @@
 -- Room that stays, for as many segments as the limits say.
-use Rattle.std.proofs.Common.{◌≡◌, ◌≤◌, ◌<◌, ℕ, ap, ◌∙◌, arith}
+use Rattle.std.proofs.Common.{◌≡◌, ℕ, ap, ◌∙◌}
 use Rattle.underlay.specs.Index.{Index, Listed}
 use Rattle.underlay.specs.Room.{HasRoomFor}
 use Rattle.underlay.specs.Seats.{Seats}

@@ -4,7 +4,7 @@ use Rattle.std.specs.Prelude.{is_some}
 use Rattle.std.specs.List.{find as find_where, list_any}
 use Rattle.std.specs.Cmp.{nat_cmp_total}
 use Rattle.std.specs.Ordering.{nat_cmp}
-use Rattle.std.specs.FinMap.{empty, get, insert, len, entries, entries_sorted, from_entries, get-empty, get-entries, len-empty, len-insert, from_entries_push, get-from_entries, nat_cmp-IsAntisymmetric}
+use Rattle.std.specs.FinMap.{get, insert, len, entries, entries_sorted, from_entries, get-empty, get-entries, len-empty, len-insert, from_entries_push, get-from_entries, nat_cmp-IsAntisymmetric}
 use Rattle.std.proofs.lemmas.Bool.{false≢true, eq-eqb, eqb-true, and_from}
 use Rattle.std.proofs.lemmas.List.{get_or_append_left}
 use Rattle.std.proofs.Math.Seq.{get_or-append_seam}

@@ -2,18 +2,15 @@
 //!
 //! An exception is keyed by the octets of its address, so that one order serves both families: the octets of the two families
 //! differ in number.
-ghost use Rattle.std.specs.Prelude.{◌≡◌, ◌≤◌, ◌<◌, None, MatchResult};
+ghost use Rattle.std.specs.Prelude.{◌≡◌, None, MatchResult, OnOk, OnErr};
 ghost use Rattle.std.specs.FinMap.{empty, get, insert, len};
 ghost use Rattle.ip_udp_view.specs.Addr.{address};
 ghost use Rattle.underlay.specs.Search.{IsAt, IsGapFor};
 
-use arrayvec::ArrayVec;
 use frame_view::Mac;
 use ip_udp_view::Addr;
+use std::alloc::{AllocError, Global};
 use std::marker::Model;
-
-/// The most exceptions that there are.
-const CAPACITY: usize = 64;
 
 /// Where to send what is for this address.
 #[derive(Clone, Copy, Debug)]
@@ -22,21 +19,12 @@ struct Hop {
     mac: Mac,
 }
 
-impl Default for Hop {
-    fn default() -> Hop {
-        Hop {
-            addr: Addr::V4([0; 4]),
-            mac: Mac([0; 6]),
-        }
-    }
-}
-
-/// At most 64 exceptions from the next hop, seen by contracts as a finite map from the octets of an address to the MAC
-/// address. One is found by a binary search.
+/// The exceptions from the next hop, seen by contracts as a finite map from the octets of an address to the MAC address. One
+/// is found by a binary search. Only [`Hops::insert`] takes memory.
 #[derive(Debug, Drop)]
 pub struct Hops {
     /// In the order of the addresses' octets.
-    exceptions: ArrayVec<Hop, CAPACITY>,
+    exceptions: Vec<Hop>,
 }
 
 impl Model for Hops {
@@ -58,19 +46,18 @@ impl Model for Hops {
 }
 
 impl Hops {
-    /// No exception.
-    pub fn new() -> Hops
+    /// No exception. It asks for no memory.
+    pub fn new(alloc: Global) -> Hops
         ensures { result ≡ empty }
     {
         Hops {
-            exceptions: ArrayVec::new(),
+            exceptions: Vec::new(alloc),
         }
     }
 
-    /// The number of exceptions, 64 at most.
+    /// The number of exceptions.
     pub fn len(&self) -> usize
-        ensures value { result ≡ len self.now }
-        ensures few { result ≤ 64 }
+        ensures { result ≡ len self.now }
     {
         self.exceptions.len()
     }
@@ -87,15 +74,16 @@ impl Hops {
         Some(self.exceptions[place].mac)
     }
 
-    /// Adds an exception for an address that has none. There are fewer than 64 before.
-    pub fn insert(&mut self, addr: Addr, mac: Mac)
-        requires new { get self.old (address addr) ≡ None }
-        requires room { len self.old < 64 }
-        ensures { self.new ≡ insert self.old (address addr) mac }
+    /// Adds an exception for an address that has none. `AllocError`: there was no memory for it, and all stays as it was.
+    pub fn insert(&mut self, addr: Addr, mac: Mac) -> Result<(), AllocError>
+        requires { get self.old (address addr) ≡ None }
+        ensures added { OnOk result (self.new ≡ insert self.old (address addr) mac) }
+        ensures refused { OnErr result (self.new ≡ self.old) }
     {
         if let Err(place) = self.search(addr) {
-            self.exceptions.insert(place, Hop { addr, mac });
+            self.exceptions.insert(place, Hop { addr, mac })?;
         }
+        Ok(())
     }
 
     /// The place of an address, or where it would go.

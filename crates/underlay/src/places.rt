@@ -1,9 +1,9 @@
 //! The segments by their VIDs.
 //!
 //! The large rows (688 octets) stand behind an index. What else an endpoint keeps for each VID stands in lists of 4,096:
-//! members (33 octets a VID), shares of the tables (48), learning (1) and counts (328). These and the rows here have no type
-//! of their own in common: it would put the index's load before each look-up of a step, and share some twenty lines of
-//! look-ups.
+//! members (16 octets a VID for each 64 ports), shares of the tables (48), learning (1) and counts (328). These and the rows
+//! here have no type of their own in common: it would put the index's load before each look-up of a step, and share some twenty
+//! lines of look-ups.
 ghost use Rattle.std.specs.Prelude.{◌≡◌, ◌≤◌, ◌<◌, ◌++◌, ◌∷◌, [], get_or, IfOk, IsTrue, None, is_ok, is_some, length, OnOk, OnErr};
 ghost use Rattle.std.specs.Option.{option_copied, option_map};
 ghost use Rattle.std.specs.FinMap.{empty, get, insert, remove, len};

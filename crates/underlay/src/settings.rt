@@ -37,7 +37,7 @@ pub struct Underlay {
     pub partial: bool,
     /// The critical Geneve options that are accepted.
     pub known: Known,
-    /// The exceptions from the next hop.
+    /// The exceptions from the next hop, as many as the limits say at most.
     pub hops: Hops,
     /// How much the endpoint has room for.
     pub limits: Limits,

@@ -10,7 +10,9 @@ use arrayvec::ArrayVec;
 use line_stream::Lines;
 use part_lines::{LineFacts, read_line};
 use part_merge::{Capture, Part, merge_streams};
-use part_record::{CaptureDigest, CaptureDigests, DigestInput, digests_of, digests_text};
+use part_record::{
+    CaptureDigest, CaptureDigests, DigestInput, MOST_PORTS, digests_of, digests_text,
+};
 use pcap_stream::{BlockOutput, Sink, Source};
 use pcapng_input::{CaptureInput, Selection};
 use segment_set::SegmentSet;
@@ -73,7 +75,7 @@ fn in_parts(
 
 /// Takes the digests of captures, which are written and read back.
 fn add_digests(alloc: Global, digest: &mut Digest, captures: &Captures) -> Result<(), JobFault> {
-    let mut ports = ArrayVec::<CaptureDigest, 16>::new();
+    let mut ports = ArrayVec::<CaptureDigest, MOST_PORTS>::new();
     for port in 0..PORTS {
         let _ = ports.try_push(digest_of(alloc, captures.text(port))?);
     }

@@ -3,4 +3,8 @@ pub mod IngressLemmas
 pub mod PlacesLemmas
 pub mod PortsLemmas
 pub mod Refusals
+pub mod RowLemmas
+pub mod SegmentLemmas
 pub mod SetterLemmas
+pub mod WalkLemmas
+pub mod WordLemmas

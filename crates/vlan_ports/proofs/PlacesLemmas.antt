@@ -54,7 +54,7 @@ abbrev pub with_at : {X : Type 0} → FinMap nat_cmp X → ℕ → Option X → 
 with_at m k (Some x) = insert m k x
 with_at m k None = remove m k
 
-get-with_at : {X : Type 0} (m : FinMap nat_cmp X) (k : ℕ) (x : Option X) (q : ℕ) → get (with_at m k x) q ≡ cond (eqb q k) x (get m q)
+pub get-with_at : {X : Type 0} (m : FinMap nat_cmp X) (k : ℕ) (x : Option X) (q : ℕ) → get (with_at m k x) q ≡ cond (eqb q k) x (get m q)
 get-with_at m k (Some x) q = get-insert_at m k x q
 get-with_at m k None q = get-remove_at m k q
 

@@ -1,54 +1,107 @@
 -- The member set and the segments as they are told.
-use Rattle.std.proofs.Common.{◌≡◌, ℕ, ◌-◌, ◌<◌, ◌≤◌, Bool, true, false, cond, eqb, leb, List, [], ◌∷◌, ◌++◌, length, map, get_or, set, Option, None, Some, refl, sym, ap, ◌∙◌, arith, inl, inr}
+use Rattle.std.proofs.Common.{◌≡◌, ℕ, ◌<◌, ◌≤◌, Bool, true, false, ◌&&◌, ◌||◌, cond, eqb, leb, List, [], ◌∷◌, ◌++◌, length, map, get_or, Option, None, Some, refl, sym, ap, ◌∙◌, arith, inl, inr}
 use Rattle.std.specs.List.{list_all}
 use Rattle.std.proofs.lemmas.Bool.{cases_Bool, cond-true, cond-false, eqb-true, false≢true, and_parts, and_from, leb-true, le-leb}
 use Rattle.std.proofs.lemmas.List.{map_push}
 use Rattle.std.proofs.lemmas.List.Folds.{list_all_at}
-use Rattle.std.specs.FinMap.{empty, get, insert, from_entries, get-empty}
+use Rattle.std.specs.FinMap.{FinMap, empty, get, insert, from_entries, get-empty}
 use Rattle.std.specs.Ordering.{nat_cmp}
 use Rattle.std.specs.Prelude.{unwrap_or, is_some}
-use Rattle.vlan_ports.specs.Places.{placed}
-use Rattle.vlan_ports.specs.Ports.{Ports, Members, Segments, members_at, member_set, with_member, without_segment, with_rule, told, members_of, is_port, are_ports, lists_ports}
+use Rattle.std.specs.Option.{option_and_then}
+use Rattle.vlan_ports.specs.Bits.{egress_in, segment_in, segments_in, stands_in}
+use Rattle.vlan_ports.specs.Row.{Row, row_at}
+use Rattle.vlan_ports.specs.Rules.{members_or_none, with_members}
+use Rattle.vlan_ports.specs.Ports.{Ports, Members, Segments, members_at, has_segment, egress_at, with_segment, with_each, with_member, without_segment, with_rule, told, members_of, is_port, are_ports, lists_ports}
 use Rattle.vlan_ports.specs.declared.member.Egress.{Egress}
+use Rattle.vlan_ports.specs.declared.member.Egress.TheVariants.{Tagged, Untagged}
 use Rattle.vlan_ports.specs.declared.member.MemberRule.{MemberRule}
 use Rattle.vlan_ports.specs.declared.port.PortRule.{PortRule}
-use Rattle.vlan_ports.proofs.PlacesLemmas.{with_at, placed-set_at, placed-set_zero, read-placed, get-insert_at, same_maps}
+use Rattle.vlan_ports.proofs.PlacesLemmas.{get-insert_at, get-insert_same, same_maps}
+use Rattle.vlan_ports.proofs.SegmentLemmas.{get-segments, is_some-segment, egress-segment, segments-put, segments-added, segments-removed}
 
-member_set-with_at : (m : Members) (port : ℕ) (egress : Option Egress) → with_at m port egress ≡ member_set m port egress
-member_set-with_at m port (Some egress) = refl
-member_set-with_at m port None = refl
+-- ---- the segments, from their words
 
--- a write at a port
-pub placed-set_port : (places : List (Option Egress)) (port : ℕ) (egress : Option Egress) → 1 ≤ port → port - 1 < length places → placed 1 (set places (port - 1) egress) ≡ member_set (placed 1 places) port egress
-placed-set_port places port egress low lt = placed-set_at 1 places port egress low lt ∙ member_set-with_at (placed 1 places) port egress
+-- the ports and segments that these ports and words are
+abbrev pub shown : List PortRule → List ℕ → Ports
+shown ports words = record { ports = ports; segments = segments_in (length ports) words }
 
--- ---- the segments, from their places
+module _ (ports : List PortRule) (words : List ℕ) (s : Ports) (vid : ℕ) (is : shown ports words ≡ s) (small : vid < 4096) where
+  -- what is read of a segment
+  pub read-members : segment_in (length ports) words vid ≡ members_at s vid
+  read-members = sym (get-segments (length ports) words vid small) ∙ ap (λ (t : Ports). members_at t vid) is
 
--- the ports and segments that these ports and places are
-abbrev pub shown : List PortRule → List (Option Members) → Ports
-shown ports places = record { ports = ports; segments = placed 0 places }
+  pub read-has : stands_in words vid ≡ has_segment s vid
+  read-has = sym (is_some-segment (length ports) words vid) ∙ ap is_some read-members
 
--- what is read at the place of a VID
-pub read-members : (ports : List PortRule) (places : List (Option Members)) (s : Ports) (k vid : ℕ) (x : Option Members) → shown ports places ≡ s → x ≡ get_or places k x → k ≡ vid → vid < length places → x ≡ members_at s vid
-read-members ports places s k vid x is read same lt = read-placed places k vid x read same lt ∙ ap (λ (t : Ports). members_at t vid) is
+  pub read-egress : (port : ℕ) → 1 ≤ port → port ≤ length s.ports → has_segment s vid ≡ true → egress_in words vid port ≡ egress_at s vid port
+  read-egress port low high there =
+      let within : port ≤ length ports = omega (arith, high, ap (λ (t : Ports). length t.ports) is) in
+      sym (egress-segment (length ports) words vid port low within (read-has ∙ there)) ∙ ap (option_and_then (λ (m : Members). get m port)) read-members
 
--- what a write there leaves: a segment, one with a port changed, or none
-pub shown-set : (ports : List PortRule) (places : List (Option Members)) (s : Ports) (k vid : ℕ) (members : Members) → shown ports places ≡ s → k ≡ vid → vid < length places → shown ports (set places k (Some members)) ≡ record s { segments = insert s.segments vid members }
-shown-set ports places s k vid members is same lt =
-    ap (λ (i : ℕ). shown ports (set places i (Some members))) same
-    ∙ ap (λ (m : Segments). let t : Ports = record { ports = ports; segments = m } in t) (placed-set_zero places vid (Some members) lt)
-    ∙ ap (λ (t : Ports). let u : Ports = record t { segments = insert t.segments vid members } in u) is
+  -- as a row shows it
+  pub read-row : (p : List PortRule) (w : List ℕ) → p ≡ ports → w ≡ words → ◌≡◌ {A = Row} (record { ports = p; members = segment_in (length p) w vid }) (row_at s vid)
+  read-row p w same alike =
+      (λ i. let r : Row = record { ports = same i; members = segment_in (length (same i)) (alike i) vid } in r)
+      ∙ (λ i. let r : Row = record { ports = (is i).ports; members = read-members i } in r)
 
-pub shown-set_member : (ports : List PortRule) (places : List (Option Members)) (s : Ports) (k vid port : ℕ) (egress : Option Egress) (was now : Members) → shown ports places ≡ s → Some was ≡ members_at s vid → now ≡ member_set was port egress → k ≡ vid → vid < length places → shown ports (set places k (Some now)) ≡ with_member s vid port egress
-shown-set_member ports places s k vid port egress was now is there written same lt =
-    shown-set ports places s k vid now is same lt
-    ∙ ap (λ (m : Members). let t : Ports = record s { segments = insert s.segments vid m } in t) (written ∙ ap (λ (o : Option Members). member_set (unwrap_or o empty) port egress) there)
+  -- what a write leaves: one with a port changed, one more, or one less
+  pub shown-put : (now : List ℕ) (port : ℕ) (egress : Option Egress) → 1 ≤ port → port ≤ length s.ports → has_segment s vid ≡ true
+      → ((v p : ℕ) → v < 4096 → egress_in now v p ≡ cond (eqb v vid && eqb p port) egress (egress_in words v p))
+      → ((v : ℕ) → v < 4096 → stands_in now v ≡ stands_in words v) → shown ports now ≡ with_member s vid port egress
+  shown-put now port egress low high there put stood =
+      let within : port ≤ length ports = omega (arith, high, ap (λ (t : Ports). length t.ports) is) in
+      ap (λ (m : Segments). let t : Ports = record { ports = ports; segments = m } in t)
+      (segments-put (length ports) now words vid small port egress low within (read-has ∙ there) put stood)
+      ∙ ap (λ (t : Ports). with_member t vid port egress) is
 
-pub shown-set_none : (ports : List PortRule) (places : List (Option Members)) (s : Ports) (k vid : ℕ) → shown ports places ≡ s → k ≡ vid → vid < length places → shown ports (set places k None) ≡ without_segment s vid
-shown-set_none ports places s k vid is same lt =
-    ap (λ (i : ℕ). shown ports (set places i None)) same
-    ∙ ap (λ (m : Segments). let t : Ports = record { ports = ports; segments = m } in t) (placed-set_zero places vid None lt)
-    ∙ ap (λ (t : Ports). without_segment t vid) is
+  pub shown-added : (now : List ℕ)
+      → ((v p : ℕ) → v < 4096 → 1 ≤ p → p ≤ length ports → egress_in now v p ≡ cond (eqb v vid) None (egress_in words v p))
+      → ((v : ℕ) → v < 4096 → stands_in now v ≡ (eqb v vid || stands_in words v)) → shown ports now ≡ with_segment s vid
+  shown-added now put stood =
+      ap (λ (m : Segments). let t : Ports = record { ports = ports; segments = m } in t) (segments-added (length ports) now words vid small put stood)
+      ∙ ap (λ (t : Ports). with_segment t vid) is
+
+  pub shown-removed : (now : List ℕ)
+      → ((v p : ℕ) → v < 4096 → 1 ≤ p → egress_in now v p ≡ egress_in words v p)
+      → ((v : ℕ) → v < 4096 → stands_in now v ≡ cond (eqb v vid) false (stands_in words v)) → shown ports now ≡ without_segment s vid
+  shown-removed now kept stood =
+      ap (λ (m : Segments). let t : Ports = record { ports = ports; segments = m } in t) (segments-removed (length ports) now words vid small kept stood)
+      ∙ ap (λ (t : Ports). without_segment t vid) is
+
+-- ---- members put one after another
+
+insert-insert : {X : Type 0} (m : FinMap nat_cmp X) (k : ℕ) (x y : X) → insert (insert m k x) k y ≡ insert m k y
+insert-insert m k x y = same_maps _ _ (λ q. get-insert_at (insert m k x) k y q ∙ ap (cond (eqb q k) (Some y)) (get-insert_at m k x q) ∙ again (eqb q k) q ∙ sym (get-insert_at m k y q))
+  where
+    again : (b : Bool) (q : ℕ) → cond b (Some y) (cond b (Some x) (get m q)) ≡ cond b (Some y) (get m q)
+    again true q = refl
+    again false q = refl
+
+-- the members of a segment that has just been written
+pub members-with : (s : Ports) (vid : ℕ) (m : Members) → members_or_none (with_members s vid m) vid ≡ m
+members-with s vid m = ap (λ (o : Option Members). unwrap_or o empty) (get-insert_same s.segments vid m)
+
+pub with-with : (s : Ports) (vid : ℕ) (m n : Members) → with_members (with_members s vid m) vid n ≡ with_members s vid n
+with-with s vid m n = ap (λ (z : Segments). let t : Ports = record { ports = s.ports; segments = z } in t) (insert-insert s.segments vid m n)
+
+pub has-with : (s : Ports) (vid : ℕ) (m : Members) → has_segment (with_members s vid m) vid ≡ true
+has-with s vid m = ap is_some (get-insert_same s.segments vid m)
+
+-- its own members written again change nothing
+pub with-own : (s : Ports) (vid : ℕ) → has_segment s vid ≡ true → with_members s vid (members_or_none s vid) ≡ s
+with-own s vid there = ap (λ (z : Segments). let t : Ports = record { ports = s.ports; segments = z } in t) (same_maps _ _ alike)
+  where
+    own : (o : Option Members) → is_some o ≡ true → Some (unwrap_or o empty) ≡ o
+    own (Some m) h = refl
+    own None h = absurd (false≢true h)
+
+    alike : (q : ℕ) → get (insert s.segments vid (members_or_none s vid)) q ≡ get s.segments q
+    alike q = elim (cases_Bool (eqb q vid)) [
+      | inl is ↦
+          get-insert_at s.segments vid (members_or_none s vid) q ∙ cond-true (eqb q vid) _ (get s.segments q) is ∙ own (members_at s vid) there
+          ∙ ap (get s.segments) (sym (eqb-true q vid is))
+      | inr ne ↦ get-insert_at s.segments vid (members_or_none s vid) q ∙ cond-false (eqb q vid) _ (get s.segments q) ne
+    ]
 
 -- ---- the numbers of ports
 
@@ -140,3 +193,36 @@ told-push ports rules rule =
     into : (b : Bool) (m n : Segments) → ◌≡◌ {A = Ports} (cond b (record { ports = ports; segments = m }) (record { ports = ports; segments = n })) (record { ports = ports; segments = cond b m n })
     into true m n = refl
     into false m n = refl
+
+-- a port of no segment
+pub no_egress : (s : Ports) (vid port : ℕ) → has_segment s vid ≡ false → None ≡ egress_at s vid port
+no_egress s vid port lacks = at (members_at s vid) lacks
+  where
+    at : (o : Option Members) → is_some o ≡ false → None ≡ option_and_then (λ (m : Members). get m port) o
+    at (Some m) h = absurd (false≢true (sym h))
+    at None h = refl
+
+-- a segment that was added, and its members put in by both lists of a rule
+module _ (s s1 s2 s3 : Ports) (rule : MemberRule) (tagged untagged : List ℕ) (with_tag : tagged ≡ rule.tagged) (without_tag : untagged ≡ rule.untagged)
+    (added : s1 ≡ with_segment s rule.vid)
+    (first : s2 ≡ with_members s1 rule.vid (with_each tagged Tagged (members_or_none s1 rule.vid)))
+    (second : s3 ≡ with_members s2 rule.vid (with_each untagged Untagged (members_or_none s2 rule.vid))) where
+  some-is : with_each tagged Tagged (members_or_none s1 rule.vid) ≡ with_each rule.tagged Tagged empty
+  some-is = let none : members_or_none s1 rule.vid ≡ empty = ap (λ (t : Ports). members_or_none t rule.vid) added ∙ members-with s rule.vid empty in λ i. with_each (with_tag i) Tagged (none i)
+
+  two : s2 ≡ with_members s rule.vid (with_each tagged Tagged (members_or_none s1 rule.vid))
+  two =
+      let m : Members = with_each tagged Tagged (members_or_none s1 rule.vid) in
+      first ∙ ap (λ (t : Ports). with_members t rule.vid m) added ∙ with-with s rule.vid empty m
+
+  all-is : with_each untagged Untagged (members_or_none s2 rule.vid) ≡ members_of rule
+  all-is =
+      let m : Members = with_each tagged Tagged (members_or_none s1 rule.vid) in
+      let before : members_or_none s2 rule.vid ≡ with_each rule.tagged Tagged empty = ap (λ (t : Ports). members_or_none t rule.vid) two ∙ members-with s rule.vid m ∙ some-is in
+      λ i. with_each (without_tag i) Untagged (before i)
+
+  pub ruled : s3 ≡ with_members s rule.vid (members_of rule)
+  ruled =
+      let m : Members = with_each tagged Tagged (members_or_none s1 rule.vid) in
+      let n : Members = with_each untagged Untagged (members_or_none s2 rule.vid) in
+      second ∙ ap (λ (t : Ports). with_members t rule.vid n) two ∙ with-with s rule.vid m n ∙ ap (with_members s rule.vid) all-is

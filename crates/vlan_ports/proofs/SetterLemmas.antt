@@ -12,7 +12,7 @@ use Rattle.vlan_ports.specs.Ports.{Ports, Members, port_at, no_port, members_at,
 use Rattle.vlan_ports.proofs.PlacesLemmas.{get-insert_at, get-remove_at}
 
 -- a port of the members
-get-member_set : (m : Members) (port : ℕ) (egress : Option Egress) (p : ℕ) → get (member_set m port egress) p ≡ cond (eqb p port) egress (get m p)
+pub get-member_set : (m : Members) (port : ℕ) (egress : Option Egress) (p : ℕ) → get (member_set m port egress) p ≡ cond (eqb p port) egress (get m p)
 get-member_set m port (Some egress) p = get-insert_at m port egress p
 get-member_set m port None p = get-remove_at m port p
 

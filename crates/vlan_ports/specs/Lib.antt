@@ -1,3 +1,4 @@
+pub mod Bits
 pub mod Code
 pub mod Frame
 pub mod Ingress
@@ -5,4 +6,6 @@ pub mod Octets
 pub mod Places
 pub mod Ports
 pub mod Row
+pub mod Rules
 pub mod Setters
+pub mod Walk

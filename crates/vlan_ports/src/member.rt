@@ -1,7 +1,7 @@
 //! The members of a segment, as they are told.
 ghost use Rattle.std.specs.Prelude.{◌≡◌, ◌<◌, ◌≤◌, [], ◌∷◌, ◌++◌, length};
 
-use crate::member_set::MOST_PORTS;
+use crate::port_set::MOST_PORTS;
 use arrayvec::ArrayVec;
 use frame_view::Vid;
 use std::marker::Model;
@@ -15,7 +15,7 @@ pub enum Egress {
     Untagged,
 }
 
-/// A list of at most 16 port numbers, seen by contracts as the list.
+/// A list of at most 255 port numbers, seen by contracts as the list.
 #[derive(Debug, Drop)]
 pub struct PortList {
     numbers: ArrayVec<u8, MOST_PORTS>,
@@ -39,9 +39,9 @@ impl PortList {
         }
     }
 
-    /// The list of these numbers, 16 at most.
+    /// The list of these numbers, 255 at most.
     pub fn from_slice(numbers: &[u8]) -> PortList
-        requires { length numbers.now ≤ 16 }
+        requires { length numbers.now ≤ 255 }
         ensures { result ≡ numbers.now }
     {
         let mut list = PortList::new();
@@ -51,9 +51,9 @@ impl PortList {
         list
     }
 
-    /// Puts a number behind the others, of which there are fewer than 16.
+    /// Puts a number behind the others, of which there are fewer than 255.
     pub fn push(&mut self, number: u8)
-        requires { length self.old < 16 }
+        requires { length self.old < 255 }
         ensures { self.new ≡ self.old ++ number ∷ [] }
     {
         self.numbers.push(number);
@@ -62,7 +62,7 @@ impl PortList {
     /// The numbers in their order.
     pub fn as_slice(&self) -> &[u8]
         ensures value { result.now ≡ self.now }
-        ensures few { length result.now ≤ 16 }
+        ensures few { length result.now ≤ 255 }
     {
         self.numbers.as_slice()
     }

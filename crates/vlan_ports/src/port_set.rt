@@ -1,18 +1,21 @@
 //! The ports, and the members of the segments.
 //!
-//! A segment's members stand at its VID's own place, 4,096 of them: look-ups, additions and removals are one index, and take
-//! no memory after `open`. What contracts see is a finite map from VID to members.
-ghost use Rattle.std.specs.Prelude.{◌≡◌, ◌≤◌, ◌<◌, length, IfOk, IsTrue, not};
+//! A segment's members stand at its VID's own place, 4,096 of them, as bits of words: look-ups, additions and removals are an
+//! index for each 64 ports at most, and take no memory after `open`. What contracts see is a finite map from VID to members.
+ghost use Rattle.std.specs.Prelude.{◌≡◌, ◌≤◌, [], length, IfOk, IsTrue, not};
 ghost use Rattle.std.specs.List.{list_all};
-ghost use Rattle.vlan_ports.specs.Ports.{told, with_rule, lists_ports, port_at, is_up, members_at, has_segment};
+ghost use Rattle.vlan_ports.specs.Ports.{told, with_rule, lists_ports, are_ports, with_each, port_at, is_up, members_at, has_segment};
 ghost use Rattle.vlan_ports.specs.Ports.{egress_at, with_up, with_member, with_segment, without_segment};
 ghost use Rattle.vlan_ports.specs.Row.{row_at};
+ghost use Rattle.vlan_ports.specs.Rules.{with_members, members_or_none};
 
-use crate::member_set::MemberSet;
-use crate::{Egress, MemberRule, PortRule, Row};
+use crate::{Egress, MemberRule, PortRule, Row, words};
 use frame_view::Vid;
 use std::alloc::{AllocError, Global};
 use std::marker::Model;
+
+/// The most ports that there are.
+pub(crate) const MOST_PORTS: usize = 255;
 
 /// Local ports and the members of segments, seen by contracts as the list of the ports and a finite map from VID to
 /// members.
@@ -23,27 +26,27 @@ use std::marker::Model;
 pub struct PortSet {
     /// Port 1 stands first.
     ports: Vec<PortRule>,
-    /// The place of each VID, from 0 on.
-    segments: Vec<Option<MemberSet>>,
+    /// The members of all segments: two columns of 4,096 words for each 64 ports.
+    words: Vec<u64>,
 }
 
 impl Model for PortSet {
-    ghost use Rattle.std.specs.Prelude.{◌≤◌, ◌<◌, length};
+    ghost use Rattle.std.specs.Prelude.{◌≤◌, ◌+◌, ◌*◌, ◌/◌, length};
     ghost use Rattle.vlan_ports.specs.Ports.{Ports};
     ghost use Rattle.vlan_ports.specs.Code.{ports_code};
-    ghost use Rattle.vlan_ports.specs.Places.{placed};
+    ghost use Rattle.vlan_ports.specs.Bits.{segments_in};
 
     ghost Value = { Ports };
 
     ghost coded = { ports_code };
 
-    ghost view = { λ s. record { ports = s.ports.items; segments = placed 0 s.segments.items } };
+    ghost view = { λ s. record { ports = s.ports.items; segments = segments_in (length s.ports.items) s.words.items } };
 
-    ghost invariant = { λ s. (length s.ports.items ≤ 16) × (4094 < length s.segments.items) };
+    ghost invariant = { λ s. (length s.ports.items ≤ 255) × ((length s.ports.items / 64 + 1) * 8192 ≤ length s.words.items) };
 }
 
 impl PortSet {
-    /// The ports of these rules, the first of them port 1, of which there are 16 at most, and the segments of these,
+    /// The ports of these rules, the first of them port 1, of which there are 255 at most, and the segments of these,
     /// which list numbers of ports. Of two rules for one VID the first holds. It reserves the places of all segments,
     /// and `AllocError` says that there was no room for them.
     pub fn open(
@@ -51,34 +54,56 @@ impl PortSet {
         ports: &[PortRule],
         members: &[MemberRule],
     ) -> Result<PortSet, AllocError>
-        requires few { length ports.now ≤ 16 }
+        requires few { length ports.now ≤ 255 }
         requires listed { IsTrue (list_all (lists_ports (length ports.now)) members.now) }
         ensures { IfOk result (λ set. set ≡ told ports.now members.now) }
     {
-        let mut set = PortSet {
-            ports: Vec::from_slice(alloc, ports)?,
-            segments: vec![in alloc; None; place_count()]?,
-        };
+        let mut set = PortSet::without_segments(alloc, ports)?;
         for rule in members {
             set.add_rule(rule);
         }
         Ok(set)
     }
 
+    /// The ports of these rules, and no segment.
+    fn without_segments(alloc: Global, ports: &[PortRule]) -> Result<PortSet, AllocError>
+        requires { length ports.now ≤ 255 }
+        ensures { IfOk result (λ set. set ≡ told ports.now []) }
+    {
+        let words = vec![in alloc; 0; words::word_count(ports.len())]?;
+        Ok(PortSet {
+            ports: Vec::from_slice(alloc, ports)?,
+            words,
+        })
+    }
+
     /// Adds the segment of a rule, unless there is one of its VID.
     fn add_rule(&mut self, rule: &MemberRule)
-        requires { IsTrue (lists_ports 16 rule.now) }
+        requires { IsTrue (lists_ports (length self.old.ports) rule.now) }
         ensures { self.new ≡ with_rule self.old rule.now }
     {
         if !self.has(rule.vid) {
-            self.segments[usize::from(rule.vid.get())] = Some(MemberSet::of(rule));
+            self.add_vid(rule.vid);
+            self.put(rule.vid, rule.tagged.as_slice(), Egress::Tagged);
+            self.put(rule.vid, rule.untagged.as_slice(), Egress::Untagged);
         }
     }
 
-    /// The number of ports, 16 at most.
+    /// Makes each of these ports a member of a segment that is there.
+    fn put(&mut self, vid: Vid, ports: &[u8], egress: Egress)
+        requires there { IsTrue (has_segment self.old vid) }
+        requires listed { IsTrue (are_ports (length self.old.ports) ports.now) }
+        ensures { self.new ≡ with_members self.old vid (with_each ports.now egress (members_or_none self.old vid)) }
+    {
+        for port in ports {
+            self.set_member(vid, *port, Some(egress));
+        }
+    }
+
+    /// The number of ports, 255 at most.
     pub fn ports(&self) -> u8
         ensures value { result ≡ length self.now.ports }
-        ensures few { result ≤ 16 }
+        ensures few { result ≤ 255 }
     {
         self.ports.len() as u8
     }
@@ -115,18 +140,19 @@ impl PortSet {
     pub fn has(&self, vid: Vid) -> bool
         ensures { result ≡ has_segment self.now vid }
     {
-        self.segments[usize::from(vid.get())].is_some()
+        words::stands(self.words.as_slice(), vid)
     }
 
     /// The ports, and the members of a segment.
     #[inline(always)]
     pub fn row(&self, vid: Vid) -> Row<'_>
         ensures value { result ≡ row_at self.now vid }
-        ensures few { length result.ports ≤ 16 }
+        ensures few { length result.ports ≤ 255 }
     {
         Row {
             ports: self.ports.as_slice(),
-            members: &self.segments[usize::from(vid.get())],
+            words: self.words.as_slice(),
+            vid,
         }
     }
 
@@ -137,10 +163,10 @@ impl PortSet {
         requires high { port ≤ length self.now.ports }
         ensures { result ≡ egress_at self.now vid port }
     {
-        match &self.segments[usize::from(vid.get())] {
-            Some(members) => members.at(port),
-            None => None,
+        if !self.has(vid) {
+            return None;
         }
+        words::egress(self.words.as_slice(), vid, port)
     }
 
     /// Takes a port up or down. The port is 1 to [`PortSet::ports`].
@@ -160,9 +186,7 @@ impl PortSet {
         requires high { port ≤ length self.old.ports }
         ensures { self.new ≡ with_member self.old vid port egress }
     {
-        if let Some(members) = &mut self.segments[usize::from(vid.get())] {
-            members.set(port, egress);
-        }
+        words::set_egress(self.words.as_mut_slice(), vid, port, egress);
     }
 
     /// Adds a segment without members, whose VID has none yet.
@@ -170,7 +194,8 @@ impl PortSet {
         requires new { IsTrue (not (has_segment self.old vid)) }
         ensures { self.new ≡ with_segment self.old vid }
     {
-        self.segments[usize::from(vid.get())] = Some(MemberSet::new());
+        let ports = self.ports.len();
+        words::add(self.words.as_mut_slice(), vid, ports);
     }
 
     /// Removes a segment that is there.
@@ -178,13 +203,6 @@ impl PortSet {
         requires there { IsTrue (has_segment self.old vid) }
         ensures { self.new ≡ without_segment self.old vid }
     {
-        self.segments[usize::from(vid.get())] = None;
+        words::remove(self.words.as_mut_slice(), vid);
     }
-}
-
-/// How many places there are: one for each number of 12 bits.
-fn place_count() -> usize
-    ensures { 4094 < result }
-{
-    4096
 }

@@ -42,7 +42,7 @@ like any other | p2 | 173 | 010203 | out
 }
 
 /// The settings of an endpoint at 192.0.2.1 with the registered ports.
-fn underlay() -> Underlay {
+fn underlay(alloc: Global) -> Underlay {
     Underlay {
         mac: Mac([0x02, 0, 0, 0, 0xAA, 1]),
         next_hop: Mac([0x02, 0, 0, 0, 0xAA, 0xFE]),
@@ -57,9 +57,11 @@ fn underlay() -> Underlay {
         zero6: false,
         partial: false,
         known: Known::new(),
-        hops: Hops::new(),
+        hops: Hops::new(alloc),
         limits: Limits {
+            ports: 16,
             segments: 256,
+            hops: 64,
             entries: 8192,
             addresses: 65536,
         },
@@ -120,7 +122,7 @@ fn are_counted(both: &BothWays) -> bool {
 
 #[test]
 fn what_the_switch_sent_is_no_input(rt: HostRuntime) -> Result<(), Fail> {
-    let underlay = underlay();
+    let underlay = underlay(rt.alloc());
     let mut both = BothWays::new(rt.alloc(), WITHIN, &underlay)?;
     let wrong = wrong_row(rt.alloc(), &mut both, rows())?.unwrap_or("none");
     assert_eq!(rt; wrong, "none");
@@ -130,7 +132,7 @@ fn what_the_switch_sent_is_no_input(rt: HostRuntime) -> Result<(), Fail> {
 
 #[test]
 fn a_change_is_always_input(rt: HostRuntime) -> Result<(), Fail> {
-    let underlay = underlay();
+    let underlay = underlay(rt.alloc());
     let mut both = BothWays::new(rt.alloc(), WITHIN, &underlay)?;
     let event = Event {
         moment: 5,

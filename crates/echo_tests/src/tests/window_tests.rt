@@ -4,7 +4,7 @@ use std::alloc::Global;
 use std::test::Fail;
 
 /// Shows a window a frame that begins with a number, all at one moment.
-fn show(window: &mut Window, place: u16, number: u32, rest: &[u8]) -> Option<u16> {
+fn show(window: &mut Window, place: u8, number: u32, rest: &[u8]) -> Option<u8> {
     let octets = number.to_be_bytes();
     let record = Record {
         place,
@@ -16,7 +16,7 @@ fn show(window: &mut Window, place: u16, number: u32, rest: &[u8]) -> Option<u16
 }
 
 /// Where the first of so many frames came in, shown again at place 2 behind all others of place 1.
-fn first_again(alloc: Global, count: u32, rest: &[u8]) -> Result<Option<u16>, Fail> {
+fn first_again(alloc: Global, count: u32, rest: &[u8]) -> Result<Option<u8>, Fail> {
     let mut window = Window::new(alloc, 10)?;
     for number in 0..count {
         let _ = show(&mut window, 1, number, rest);

@@ -1,30 +1,46 @@
 //! Decisions: what an endpoint makes of a frame or a packet, as one value, with a step or without.
-ghost use Rattle.std.specs.Prelude.{◌≡◌, ◌≤◌, ◌+◌, length, IfOk, IsSome, true};
-ghost use Rattle.endpoint_state.specs.Held.{settings_of, state_at, moment_of};
-ghost use Rattle.endpoint_state.specs.Settings.{segment_at};
-ghost use Rattle.endpoint_state.specs.Sound.{is_reached};
+ghost use Rattle.std.specs.Prelude.{◌≡◌, ◌<◌, ◌≤◌, ◌+◌, false, length, true};
+ghost use Rattle.frame_view.specs.Tag.{IsVid};
+ghost use Rattle.underlay.specs.Overlay.{flood_at};
 ghost use Rattle.endpoint_core.specs.Arrival.{came_at, came_by};
-ghost use Rattle.endpoint_core.specs.Course.{decision_of, AreInParts, IsThere, IsShortFrame, CanLeave};
+ghost use Rattle.endpoint_core.specs.Course.{AreInParts};
 ghost use Rattle.endpoint_core.specs.Decision.{octets_of};
 ghost use Rattle.endpoint_core.specs.Event.{frame_at, packet_at};
-ghost use Rattle.endpoint_core.specs.Step.{Decided, answer, after, decided, decided_in};
+ghost use Rattle.endpoint_core.specs.Outlets.{AreFewOutlets, HasFewOutlets};
+ghost use Rattle.endpoint_core.specs.Step.{Decided, answer, after};
 ghost use Rattle.endpoint_core.specs.Work.{most_calls, most_compared_by};
 
-use crate::arrival::Came;
-use crate::{Course, Decision, Endpoint};
-use endpoint_state::EndpointState;
-use frame_view::Refused;
+use crate::{Decision, Endpoint};
+use frame_view::Vid;
 use tunnel_learning::Outlets;
+use underlay::Under;
+
+/// The most outlets of a decision.
+const MOST: usize = 32;
+
+/// The highest VID (IEEE 802.1Q, 9.6).
+const LAST_VID: u16 = 4094;
 
 impl Endpoint {
     ghost use Rattle.endpoint_core.specs.Kept.{state_of};
 
+    /// Whether the local ports and the flood list of any segment are 32 together at most, so that a [`Decision`] has room for
+    /// what comes of each outlet. It looks at the flood lists of all segments.
+    pub fn has_few_outlets(&self) -> bool
+        ensures few { result ≡ true → HasFewOutlets (state_of self.now).bridges.settings }
+        ensures many { HasFewOutlets (state_of self.now).bridges.settings → result ≡ true }
+    {
+        are_few(self.ports(), self.under())
+    }
+
     /// A frame of this original length came in at a local port at a moment, in nanoseconds: what is decided of it.
-    /// `now` isn't before `self.now()`, and the port is 1 to `ports()`.
+    /// `now` isn't before `self.now()`, the port is 1 to `ports()`, and outlets are few, as `has_few_outlets()` tells. With any
+    /// settings [`Endpoint::take_frame`] does the same.
     pub fn frame<'a>(&mut self, now: u64, port: u8, original: u32, octets: &'a [u8]) -> Decision<'a>
         requires moment { (state_of self.old).moment ≤ now }
         requires low { 1 ≤ port }
         requires high { port ≤ length (state_of self.old).bridges.settings.ports.ports }
+        requires few { HasFewOutlets (state_of self.old).bridges.settings }
         ensures answer { Decided (octets_of result) ≡ answer (state_of self.old) (frame_at now port original octets.now) }
         ensures after { state_of self.new ≡ after (state_of self.old) (frame_at now port original octets.now) }
         ensures parts { let S = (state_of self.old).bridges.settings in
@@ -42,9 +58,10 @@ impl Endpoint {
     }
 
     /// A packet of this original length came in from the underlay at a moment, in nanoseconds: what is decided of it.
-    /// `now` isn't before `self.now()`.
+    /// `now` isn't before `self.now()`, and outlets are few. With any settings [`Endpoint::take_packet`] does the same.
     pub fn packet<'a>(&mut self, now: u64, original: u32, octets: &'a [u8]) -> Decision<'a>
-        requires { (state_of self.old).moment ≤ now }
+        requires moment { (state_of self.old).moment ≤ now }
+        requires few { HasFewOutlets (state_of self.old).bridges.settings }
         ensures answer { Decided (octets_of result) ≡ answer (state_of self.old) (packet_at now original octets.now) }
         ensures after { state_of self.new ≡ after (state_of self.old) (packet_at now original octets.now) }
         ensures parts { let S = (state_of self.old).bridges.settings in
@@ -62,7 +79,8 @@ impl Endpoint {
     }
 
     /// What would be decided of a frame at a local port, as [`Endpoint::frame`] decides it; the endpoint stays as it is.
-    /// `now` isn't before `self.now()`, and the port is 1 to `ports()`.
+    /// `now` isn't before `self.now()`, the port is 1 to `ports()`, and outlets are few. With any settings
+    /// [`Endpoint::course_of_frame`] tells the same.
     pub fn foresee_frame<'a>(
         &self,
         now: u64,
@@ -73,76 +91,57 @@ impl Endpoint {
         requires moment { (state_of self.now).moment ≤ now }
         requires low { 1 ≤ port }
         requires high { port ≤ length (state_of self.now).bridges.settings.ports.ports }
+        requires few { HasFewOutlets (state_of self.now).bridges.settings }
         ensures { Decided (octets_of result) ≡ answer (state_of self.now) (frame_at now port original octets.now) }
     {
-        let came = self.frame_from(port, original, octets);
-        foreseen(&self.state, now, came)
+        let mut places = Outlets::new();
+        let course = self.course_of_frame(now, port, original, octets, &mut places);
+        Decision::of(&self.state, &course, places.as_slice())
     }
 
     /// What would be decided of a packet from the underlay, as [`Endpoint::packet`] decides it; the endpoint stays as it is.
-    /// `now` isn't before `self.now()`.
+    /// `now` isn't before `self.now()`, and outlets are few. With any settings [`Endpoint::course_of_packet`] tells the same.
     pub fn foresee_packet<'a>(&self, now: u64, original: u32, octets: &'a [u8]) -> Decision<'a>
-        requires { (state_of self.now).moment ≤ now }
+        requires moment { (state_of self.now).moment ≤ now }
+        requires few { HasFewOutlets (state_of self.now).bridges.settings }
         ensures { Decided (octets_of result) ≡ answer (state_of self.now) (packet_at now original octets.now) }
     {
-        let came = self.frame_in(original, octets);
-        foreseen(&self.state, now, came)
+        let mut places = Outlets::new();
+        let course = self.course_of_packet(now, original, octets, &mut places);
+        Decision::of(&self.state, &course, places.as_slice())
     }
 }
 
-/// What would be decided of a frame or a packet that came to a segment, or to none.
-fn foreseen<'a>(state: &EndpointState, now: u64, came: Course<'a>) -> Decision<'a>
-    requires time { moment_of state.now ≤ now }
-    requires there { IfOk came (λ x. IsSome (segment_at (settings_of state.now) x.vid)) }
-    requires short { IfOk came (λ x. length x.frame.body ≤ 65549) }
-    requires reached { IfOk came (λ x. is_reached (settings_of state.now).overlay x.vid x.from ≡ true) }
-    ensures { octets_of result ≡ decided now (state_at now state.now) came.entry }
+/// Whether so many ports and the flood list of any segment are 32 together at most.
+fn are_few(ports: u8, under: &Under) -> bool
+    ensures few { result ≡ true → AreFewOutlets ports under.now }
+    ensures many { AreFewOutlets ports under.now → result ≡ true }
 {
-    let mut places = Outlets::new();
-    let course = course_ahead(state, now, came, &mut places);
-    Decision::of(state, &course, places.as_slice())
-}
-
-/// Where it would go, with the places in a list that is written over.
-fn course_ahead<'a>(
-    state: &EndpointState,
-    now: u64,
-    came: Course<'a>,
-    places: &mut Outlets,
-) -> Course<'a>
-    requires time { moment_of state.now ≤ now }
-    requires there { IfOk came (λ x. IsSome (segment_at (settings_of state.now) x.vid)) }
-    requires short { IfOk came (λ x. length x.frame.body ≤ 65549) }
-    requires reached { IfOk came (λ x. is_reached (settings_of state.now).overlay x.vid x.from ≡ true) }
-    ensures decision { decision_of (settings_of state.now) result places.new.items ≡ decided now (state_at now state.now) came.entry }
-    ensures there { IsThere (settings_of state.now) result }
-    ensures short { IsShortFrame result }
-    ensures leave { CanLeave (settings_of state.now) result places.new.items }
-{
-    match came {
-        Ok(came) => course_in(state, now, came, places),
-        Err(refused) => Err(refused),
+    for index in 0..LAST_VID {
+        if is_crowded(ports, under, index + 1) {
+            return false;
+        }
     }
+    true
 }
 
-/// Where the bridge of its segment would send a frame.
-fn course_in<'a>(
-    state: &EndpointState,
-    now: u64,
-    came: Came<'a>,
-    places: &mut Outlets,
-) -> Course<'a>
-    requires time { moment_of state.now ≤ now }
-    requires there { IsSome (segment_at (settings_of state.now) came.vid) }
-    requires short { length came.frame.body ≤ 65549 }
-    requires reached { is_reached (settings_of state.now).overlay came.vid came.from ≡ true }
-    ensures decision { decision_of (settings_of state.now) result places.new.items ≡ decided_in now (state_at now state.now) came.entry }
-    ensures there { IsThere (settings_of state.now) result }
-    ensures short { IsShortFrame result }
-    ensures leave { CanLeave (settings_of state.now) result places.new.items }
+/// Whether so many ports and the flood list of the segment of a VID are more than 32 together.
+fn is_crowded(ports: u8, under: &Under, number: u16) -> bool
+    requires { IsVid number }
+    ensures crowded { result ≡ true → 32 < ports + length (flood_at under.now number) }
+    ensures few { result ≡ false → ports + length (flood_at under.now number) ≤ 32 }
 {
-    match state.foresee(now, came.vid, came.from, &came.frame, places) {
-        Ok(()) => Ok(came),
-        Err(reason) => Err(Refused::within(came.vid, reason)),
+    MOST < usize::from(ports) + flooded(under, number)
+}
+
+/// How many remote endpoints the segment of a VID floods to, none where there is no segment.
+fn flooded(under: &Under, number: u16) -> usize
+    requires { IsVid number }
+    ensures value { result ≡ length (flood_at under.now number) }
+    ensures few { result ≤ 16 }
+{
+    match Vid::new(number) {
+        Some(vid) if under.has(vid) => under.flood(vid).targets().len(),
+        _ => 0,
     }
 }

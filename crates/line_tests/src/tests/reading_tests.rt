@@ -9,7 +9,7 @@ fn rows<'a>() -> &'a str {
     "\
 two ports and a remote | 1 1000000000 p1 1 10 p2=60 p3=64 192.0.2.2=110 | 1 p2 p3 u
 one port | 3 3000000000 p2 1 10 p1=60 | 3 p1
-the last port | 9 3000000000 u 1 10 p16=60 | 9 p16
+the last port | 9 3000000000 u 1 10 p255=60 | 9 p255
 a remote of a kind | 1 1000000000 p1 1 10 p2=60 vxlan:192.0.2.2=110 geneve:192.0.2.2=110 | 1 p2 u u
 a remote over IPv6 | 4 1000000000 p1 1 10 2001:0db8:0000:0000:0000:0000:0000:0002=134 | 4 u
 a place where nothing left, behind one where it did | 8 8000000000 p1 3 10 p2=60 192.0.2.2!TooBig | 8 p2

@@ -1,5 +1,5 @@
 //! Texts of digests that are lent to the parts of a run, and octets that are counted on the way.
-use crate::tests::texts::text_in_full;
+use crate::tests::texts::{put_lines, text_in_full};
 use part_record::{CountInput, DigestsFault, LentFault, digests_of, digests_text, see_octets};
 use pcap_stream::Input;
 use std::alloc::Global;
@@ -28,6 +28,30 @@ fn writes_the_digests_that_it_reads(rt: HostRuntime) -> Result<(), Fail> {
     for short in DIGESTS {
         assert!(rt; is_written_again(rt.alloc(), short)?, "{short}");
     }
+    Ok(())
+}
+
+/// The text of the digests of so many ports.
+fn digests_with_ports(alloc: Global, ports: u16) -> Result<String, Fail> {
+    let mut short = String::new(alloc);
+    short.push_str("tep digests 1/")?;
+    put_lines(&mut short, ports, "capture p", " 24 A/")?;
+    short.push_str("capture u 7 E/")?;
+    Ok(text_in_full(alloc, short.as_str())?)
+}
+
+#[test]
+fn writes_digests_of_255_ports_as_it_reads_them(rt: HostRuntime) -> Result<(), Fail> {
+    let text = digests_with_ports(rt.alloc(), 255)?;
+    assert!(rt; is_written_again(rt.alloc(), text.as_str())?);
+    Ok(())
+}
+
+#[test]
+fn refuses_digests_of_256_ports(rt: HostRuntime) -> Result<(), Fail> {
+    let text = digests_with_ports(rt.alloc(), 256)?;
+    let fault = digests_of(text.as_str()).err();
+    assert!(rt; fault == Some(DigestsFault::Capture));
     Ok(())
 }
 

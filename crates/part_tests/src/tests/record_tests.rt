@@ -1,5 +1,5 @@
 //! Records and their texts.
-use crate::tests::texts::text_in_full;
+use crate::tests::texts::{put_lines, text_in_full};
 use part_record::{Difference, PartRecordFault, record_of, same_run, text_of};
 use std::alloc::Global;
 use std::test::Fail;
@@ -31,6 +31,36 @@ fn writes_what_it_reads(rt: HostRuntime) -> Result<(), Fail> {
     for short in RECORDS {
         assert!(rt; is_written_again(rt.alloc(), short)?, "{short}");
     }
+    Ok(())
+}
+
+/// The record of a part with so many ports.
+fn record_with_ports(alloc: Global, ports: u16) -> Result<String, Fail> {
+    let mut short = String::new(alloc);
+    short.push_str("tep shard 2/segments none/settings A/")?;
+    put_lines(&mut short, ports, "capture p", " A/")?;
+    short.push_str("capture u E/events 7/output decisions 1 2 3 4/output u 0 24 5 6/")?;
+    put_lines(
+        &mut short,
+        ports,
+        "output p",
+        " 1 24 0 18446744073709551615/",
+    )?;
+    Ok(text_in_full(alloc, short.as_str())?)
+}
+
+#[test]
+fn writes_a_record_of_255_ports_as_it_reads_it(rt: HostRuntime) -> Result<(), Fail> {
+    let text = record_with_ports(rt.alloc(), 255)?;
+    assert!(rt; is_written_again(rt.alloc(), text.as_str())?);
+    Ok(())
+}
+
+#[test]
+fn refuses_a_record_of_256_ports(rt: HostRuntime) -> Result<(), Fail> {
+    let text = record_with_ports(rt.alloc(), 256)?;
+    let fault = record_of(text.as_str()).err();
+    assert!(rt; fault == Some(PartRecordFault::Capture));
     Ok(())
 }
 

@@ -20,3 +20,13 @@ pub fn text_in_full(alloc: Global, short: &str) -> Result<String, AllocError> {
     }
     Ok(text)
 }
+
+/// Puts the lines of so many ports behind a text, from port 1 on: each with its port's number between two words.
+pub fn put_lines(text: &mut String, ports: u16, front: &str, back: &str) -> Result<(), AllocError> {
+    let alloc = *text.allocator();
+    for port in 1..=ports {
+        let line = format!(in alloc; "{front}{port}{back}")?;
+        text.push_str(line.as_str())?;
+    }
+    Ok(())
+}

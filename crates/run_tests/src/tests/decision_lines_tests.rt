@@ -14,10 +14,8 @@ use timeline::{Captured, Cut, Event, Happening, Tap};
 
 const SECOND: u64 = 1_000_000_000;
 
-/// What stands in a line of 16 ports and 16 IPv6 remotes, where 110 octets left at each.
-fn longest<'a>() -> &'a str {
-    "1000 18446744073709551615 p16 18446744073709551615 4094 p1=110 p2=110 p3=110 p4=110 p5=110 p6=110 p7=110 p8=110 p9=110 p10=110 p11=110 p12=110 p13=110 p14=110 p15=110 p16=110 vxlan:2001:0db8:0000:0000:0000:0000:0000:0001=110 geneve:2001:0db8:0000:0000:0000:0000:0000:0002=110 vxlan:2001:0db8:0000:0000:0000:0000:0000:0003=110 geneve:2001:0db8:0000:0000:0000:0000:0000:0004=110 vxlan:2001:0db8:0000:0000:0000:0000:0000:0005=110 geneve:2001:0db8:0000:0000:0000:0000:0000:0006=110 vxlan:2001:0db8:0000:0000:0000:0000:0000:0007=110 geneve:2001:0db8:0000:0000:0000:0000:0000:0008=110 vxlan:2001:0db8:0000:0000:0000:0000:0000:0009=110 geneve:2001:0db8:0000:0000:0000:0000:0000:000a=110 vxlan:2001:0db8:0000:0000:0000:0000:0000:000b=110 geneve:2001:0db8:0000:0000:0000:0000:0000:000c=110 vxlan:2001:0db8:0000:0000:0000:0000:0000:000d=110 geneve:2001:0db8:0000:0000:0000:0000:0000:000e=110 vxlan:2001:0db8:0000:0000:0000:0000:0000:000f=110 geneve:2001:0db8:0000:0000:0000:0000:0000:0010=110\n"
-}
+/// How many octets a line of 255 ports and 512 IPv6 remotes has, where 110 octets left at each, and their sum (FNV-1a of 64 bits).
+const LONGEST: (usize, u64) = (28_100, 0xB939_F3E3_FCC5_E64C);
 
 /// An endpoint with three ports in a segment that floods to 192.0.2.2 by VXLAN; port 3 has it tagged.
 fn endpoint(alloc: Global) -> Result<Endpoint, Fail> {
@@ -196,43 +194,46 @@ fn outcomes_stand_behind_the_front(rt: HostRuntime) -> Result<(), Fail> {
     Ok(())
 }
 
-/// Sixteen ports, and sixteen remotes by tunnels of both kinds.
-fn all_places() -> [Place; 32] {
-    let mut places = [Place::Local(0); 32];
-    for k in 0..16_u8 {
-        let mut addr = [0; 16];
-        addr[..4].copy_from_slice(&[0x20, 0x01, 0x0D, 0xB8]);
-        addr[15] = k + 1;
-        let kind = if k % 2 == 0 {
-            Tunnel::Vxlan
-        } else {
-            Tunnel::Geneve
-        };
-        places[usize::from(k)] = Place::Local(k + 1);
-        places[usize::from(k) + 16] = Place::Remote(kind, Addr::V6(addr));
-    }
-    places
+/// The remote of this number, by a tunnel of the one or the other kind.
+fn remote(number: u16) -> Place {
+    let mut addr = [0; 16];
+    addr[..4].copy_from_slice(&[0x20, 0x01, 0x0D, 0xB8]);
+    addr[14..].copy_from_slice(&number.to_be_bytes());
+    let kind = if number % 2 == 1 {
+        Tunnel::Vxlan
+    } else {
+        Tunnel::Geneve
+    };
+    Place::Remote(kind, Addr::V6(addr))
 }
 
-/// Puts the same outcome at each place.
-fn put_all(line: &mut Line, places: &[Place], count: Result<usize, Reason>)
-    requires few { length places.now ≤ 32 }
-    requires room { length line.old + 2464 ≤ 4096 }
-    ensures { length line.new ≤ length line.old + 2464 }
+/// Puts the same outcome at 255 ports.
+fn put_ports(line: &mut Line, count: Result<usize, Reason>)
+    requires { length line.old + 19635 ≤ 65536 }
+    ensures { length line.new ≤ length line.old + 19635 }
 {
-    let mut is_first = true;
-    for place in places {
-        line.put_counted(is_first, true, *place, count);
-        is_first = false;
+    for index in 0..255_u8 {
+        line.put_counted(index == 0, true, Place::Local(index + 1), count);
+    }
+}
+
+/// Puts the same outcome at 512 remotes behind them.
+fn put_remotes(line: &mut Line, count: Result<usize, Reason>)
+    requires { length line.old + 39424 ≤ 65536 }
+    ensures { length line.new ≤ length line.old + 39424 }
+{
+    for index in 0..512_u16 {
+        line.put_counted(false, true, remote(index + 1), count);
     }
 }
 
 /// Writes the line of an event where so many octets left at all places.
 fn write_longest(line: &mut Line, count: Result<usize, Reason>) {
     let octets = broadcast();
-    let event = record(u64::MAX, u64::MAX, Tap::Port(16), &octets);
+    let event = record(u64::MAX, u64::MAX, Tap::Port(255), &octets);
     line.begin(&counted(1_000), &event, Vid::new(4094));
-    put_all(line, &all_places(), count);
+    put_ports(line, count);
+    put_remotes(line, count);
     line.end();
 }
 
@@ -252,14 +253,24 @@ fn writes_longest(line: &mut Line, endpoint: &mut Endpoint) -> bool {
     true
 }
 
-fn is_told(line: &Line, expected: &str) -> bool {
-    line.text() == expected.as_bytes()
+/// FNV-1a of 64 bits.
+fn sum_of(octets: &[u8]) -> u64 {
+    let mut sum = 0xCBF2_9CE4_8422_2325;
+    for octet in octets {
+        sum = (sum ^ u64::from(*octet)).wrapping_mul(0x0000_0100_0000_01B3);
+    }
+    sum
+}
+
+/// How long a line is, and its sum.
+fn measured(line: &Line) -> (usize, u64) {
+    (line.text().len(), sum_of(line.text()))
 }
 
 /// Whether the last of them, at the remote, is the longest line.
 fn tells_longest(endpoint: &mut Endpoint) -> bool {
     let mut line = Line::new();
-    writes_longest(&mut line, endpoint) && is_told(&line, longest())
+    writes_longest(&mut line, endpoint) && measured(&line) == LONGEST
 }
 
 #[test]

@@ -1,6 +1,8 @@
 //! What texts mean.
 use crate::tests::change_texts::meanings;
-use crate::tests::settings_texts::{first_version, one_tunnel, one_tunnel_before, second_version};
+use crate::tests::settings_texts::{
+    first_version, one_tunnel, one_tunnel_before, second_version, third_version,
+};
 use overlay_config::{changes_of, migrate, settings_of};
 use std::alloc::Global;
 use std::test::Fail;
@@ -38,6 +40,15 @@ fn settings_of_version_1_are_read_field_by_field(rt: HostRuntime) -> Result<(), 
 fn settings_of_version_2_are_read_field_by_field(rt: HostRuntime) -> Result<(), Fail> {
     let alloc = rt.alloc();
     let (text, wanted) = second_version(alloc)?;
+    let have = settings_meaning(alloc, text.as_bytes())?;
+    assert_eq!(rt; have.as_str(), wanted.as_str());
+    Ok(())
+}
+
+#[test]
+fn settings_of_version_3_are_read_field_by_field(rt: HostRuntime) -> Result<(), Fail> {
+    let alloc = rt.alloc();
+    let (text, wanted) = third_version(alloc)?;
     let have = settings_meaning(alloc, text.as_bytes())?;
     assert_eq!(rt; have.as_str(), wanted.as_str());
     Ok(())

@@ -11,7 +11,8 @@ Settings { parts: Parts { underlay: Underlay { mac: Mac([2, 0, 0, 0, 170, 1]), \
 next_hop: Mac([2, 0, 0, 0, 170, 254]), ip4: Some([192, 0, 2, 1]), \
 ip6: Some([32, 1, 13, 184, 0, 0, 0, 0, 0, 0, 0, 0, 0, 0, 0, 1]), mtu: 1550, ttl: 64, vxlan_port: 4789, \
 geneve_port: 6081, sum4: false, sum6: true, zero6: true, partial: false, known: Known { pairs: [] }, \
-hops: Hops { exceptions: [] }, limits: Limits { segments: 256, entries: 8192, addresses: 65536 } }, ports: [PortRule { pvid: Vid { number: 10 }, accept: All, up: true }, \
+hops: Hops { exceptions: [] }, limits: Limits { ports: 16, segments: 256, hops: 64, entries: 8192, \
+addresses: 65536 } }, ports: [PortRule { pvid: Vid { number: 10 }, accept: All, up: true }, \
 PortRule { pvid: Vid { number: 10 }, accept: All, up: true }, PortRule { pvid: Vid { number: 10 }, accept: All, \
 up: true }], segments: [";
 
@@ -112,7 +113,8 @@ next_hop: Mac([2, 0, 0, 0, 170, 254]), ip4: Some([192, 0, 2, 1]), ip6: None, mtu
 vxlan_port: 6081, geneve_port: 65535, sum4: true, sum6: false, zero6: false, partial: false, \
 known: Known { pairs: [(258, 128), (65535, 255)] }, \
 hops: Hops { exceptions: [Hop { addr: V6([32, 1, 13, 184, 0, 0, 0, 0, 0, 0, 0, 0, 0, 0, 0, 9]), \
-mac: Mac([2, 0, 0, 0, 187, 9]) }] }, limits: Limits { segments: 256, entries: 8192, addresses: 65536 } }, ports: [PortRule { pvid: Vid { number: 10 }, accept: Tagged, up: false }, \
+mac: Mac([2, 0, 0, 0, 187, 9]) }] }, limits: Limits { ports: 16, segments: 256, hops: 64, entries: 8192, \
+addresses: 65536 } }, ports: [PortRule { pvid: Vid { number: 10 }, accept: Tagged, up: false }, \
 PortRule { pvid: Vid { number: 4094 }, accept: Untagged, up: true }], \
 segments: [SegmentRule { vid: Vid { number: 10 }, tunnels: Tunnels { first: SegmentTunnel { kind: Vxlan, \
 vni: Vni { number: 5000 }, group: 0 }, second: None }, flood: FloodList { entries: [Remote { tunnel: Vxlan, \
@@ -159,7 +161,8 @@ const TWO_TUNNELS_AND_ONE_MEAN: &str = "\
 Settings { parts: Parts { underlay: Underlay { mac: Mac([2, 0, 0, 0, 170, 1]), \
 next_hop: Mac([2, 0, 0, 0, 170, 254]), ip4: Some([192, 0, 2, 1]), ip6: None, mtu: 1550, ttl: 64, vxlan_port: 4789, \
 geneve_port: 6081, sum4: false, sum6: true, zero6: true, partial: false, known: Known { pairs: [] }, \
-hops: Hops { exceptions: [] }, limits: Limits { segments: 256, entries: 8192, addresses: 65536 } }, ports: [PortRule { pvid: Vid { number: 10 }, accept: All, up: true }], \
+hops: Hops { exceptions: [] }, limits: Limits { ports: 16, segments: 256, hops: 64, entries: 8192, \
+addresses: 65536 } }, ports: [PortRule { pvid: Vid { number: 10 }, accept: All, up: true }], \
 segments: [SegmentRule { vid: Vid { number: 10 }, tunnels: Tunnels { first: SegmentTunnel { kind: Geneve, \
 vni: Vni { number: 9000 }, group: 255 }, second: Some(SegmentTunnel { kind: Vxlan, vni: Vni { number: 5000 }, \
 group: 1 }) }, flood: FloodList { entries: [Remote { tunnel: Geneve, addr: V4([192, 0, 2, 3]) }, \
@@ -175,6 +178,32 @@ pub(crate) fn second_version(alloc: Global) -> Result<Meant, AllocError> {
     Ok((
         with_one_port(alloc, "version = 2\npool = 1000\n", TWO_TUNNELS_AND_ONE)?,
         String::from_str(alloc, TWO_TUNNELS_AND_ONE_MEAN)?,
+    ))
+}
+
+/// The limits at their most, in front of the same in version 3; each has a value of its own.
+const AT_MOST: &str = "\
+version = 3
+pool = 1000
+[limits]
+addresses = 1048576
+entries = 131072
+hops = 4096
+segments = 4094
+ports = 255
+";
+
+/// What differs in what they mean.
+const OF_LIMITS: [(&str, &str); 1] = [(
+    "Limits { ports: 16, segments: 256, hops: 64, entries: 8192, addresses: 65536 }",
+    "Limits { ports: 255, segments: 4094, hops: 4096, entries: 131072, addresses: 1048576 }",
+)];
+
+/// Settings of version 3.
+pub(crate) fn third_version(alloc: Global) -> Result<Meant, AllocError> {
+    Ok((
+        with_one_port(alloc, AT_MOST, TWO_TUNNELS_AND_ONE)?,
+        replaced(alloc, TWO_TUNNELS_AND_ONE_MEAN, &OF_LIMITS)?,
     ))
 }
 

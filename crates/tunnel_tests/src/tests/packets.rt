@@ -4,6 +4,7 @@ ghost use Rattle.std.specs.Prelude.{◌≡◌};
 use frame_view::Mac;
 use geneve_head::Known;
 use ip_udp_view::{Addr, Tunnel};
+use std::alloc::Global;
 use underlay::{Hops, Limits, SegmentTunnel, Underlay};
 use vxlan_head::Vni;
 
@@ -28,7 +29,7 @@ pub(crate) fn octets6(last: u8) -> [u8; 16] {
 }
 
 /// The underlay of an endpoint whose addresses end with this octet.
-pub(crate) fn underlay(last: u8) -> Underlay
+pub(crate) fn underlay(alloc: Global, last: u8) -> Underlay
     ensures { result.limits.segments ≡ 256 }
 {
     Underlay {
@@ -45,9 +46,11 @@ pub(crate) fn underlay(last: u8) -> Underlay
         zero6: true,
         partial: false,
         known: Known::new(),
-        hops: Hops::new(),
+        hops: Hops::new(alloc),
         limits: Limits {
+            ports: 16,
             segments: 256,
+            hops: 64,
             entries: 8192,
             addresses: 65536,
         },

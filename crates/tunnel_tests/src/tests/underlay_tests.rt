@@ -5,6 +5,7 @@ use crate::tests::packets::{NEXT_HOP, host4, host6, octets6, tunnel, underlay};
 use flood_lists::{FloodFault, FloodList, NotThere, Own};
 use frame_view::{Mac, Vid};
 use ip_udp_view::{Addr, Tunnel};
+use std::alloc::AllocError;
 use std::test::Fail;
 use underlay::{Hops, PeerRule, SegmentTunnel, TagRule, TunnelRule, Tunnels, Under, Underlay};
 use vxlan_head::Vni;
@@ -28,7 +29,7 @@ const PORTS: [(u16, Option<Tunnel>); 4] = [
 
 #[test]
 fn a_port_has_the_kind_of_its_tunnels(rt: HostRuntime) {
-    let underlay = underlay(1);
+    let underlay = underlay(rt.alloc(), 1);
     assert_eq!(rt; wrong_kind(&underlay, &PORTS), None);
     assert!(rt; underlay.port_of(Tunnel::Vxlan) == 4789);
     assert!(rt; underlay.port_of(Tunnel::Geneve) == 6081);
@@ -44,7 +45,7 @@ fn has_own_addresses(underlay: &Underlay) -> bool {
 
 #[test]
 fn own_addresses_are_of_both_families(rt: HostRuntime) {
-    let underlay = underlay(1);
+    let underlay = underlay(rt.alloc(), 1);
     assert!(rt; has_own_addresses(&underlay));
     let wanted = Own {
         ip4: Some([192, 0, 2, 1]),
@@ -58,20 +59,21 @@ fn exception(last: u8) -> Mac {
     Mac([0x02, 0, 0, 0, 0xBB, last])
 }
 
-/// Puts an exception where there is none and room for it.
-fn put_hop(hops: &mut Hops, addr: Addr, last: u8) {
-    if hops.get(addr).is_none() && hops.len() < 64 {
-        hops.insert(addr, exception(last));
+/// Puts an exception where there is none.
+fn put_hop(hops: &mut Hops, addr: Addr, last: u8) -> Result<(), AllocError> {
+    if hops.get(addr).is_some() {
+        return Ok(());
     }
+    hops.insert(addr, exception(last))
 }
 
 /// Puts five exceptions.
-fn put_hops(hops: &mut Hops) {
-    put_hop(hops, host6(9), 1);
-    put_hop(hops, host4(7), 2);
-    put_hop(hops, host4(3), 3);
-    put_hop(hops, host4(5), 4);
-    put_hop(hops, host6(4), 5);
+fn put_hops(hops: &mut Hops) -> Result<(), AllocError> {
+    put_hop(hops, host6(9), 1)?;
+    put_hop(hops, host4(7), 2)?;
+    put_hop(hops, host4(3), 3)?;
+    put_hop(hops, host4(5), 4)?;
+    put_hop(hops, host6(4), 5)
 }
 
 /// Whether each of them is the next hop of its address.
@@ -92,14 +94,15 @@ fn has_groups(underlay: &Underlay) -> bool {
 }
 
 #[test]
-fn a_group_an_exception_and_others_have_their_next_hops(rt: HostRuntime) {
-    let mut underlay = underlay(1);
-    put_hops(&mut underlay.hops);
+fn a_group_an_exception_and_others_have_their_next_hops(rt: HostRuntime) -> Result<(), Fail> {
+    let mut underlay = underlay(rt.alloc(), 1);
+    put_hops(&mut underlay.hops)?;
     assert!(rt; underlay.hops.len() == 5);
     assert!(rt; has_exceptions(&underlay));
     assert!(rt; underlay.hop_to(host4(4)) == NEXT_HOP);
     assert!(rt; underlay.hop_to(host6(5)) == NEXT_HOP);
     assert!(rt; has_groups(&underlay));
+    Ok(())
 }
 
 fn vxlan_5000() -> SegmentTunnel {
@@ -185,7 +188,7 @@ fn removes(under: &mut Under, vid: Vid) -> bool {
 #[test]
 fn a_segment_is_found_by_its_vid_and_by_its_tunnel(rt: HostRuntime) -> Result<(), Fail> {
     let (ten, twenty, thirty) = (vid(10)?, vid(20)?, vid(30)?);
-    let mut under = Under::open(rt.alloc(), underlay(1), Vec::new(rt.alloc()))?;
+    let mut under = Under::open(rt.alloc(), underlay(rt.alloc(), 1), Vec::new(rt.alloc()))?;
     assert!(rt; adds_two(&mut under, ten, twenty));
     assert!(rt; under.has(ten) && under.has(twenty) && !under.has(thirty));
     assert!(rt; finds_by_tunnel(&under, ten, twenty));
@@ -222,7 +225,7 @@ fn has_targets(under: &Under, vid: Vid, wanted: usize) -> bool {
 #[test]
 fn a_flood_list_changes_alone(rt: HostRuntime) -> Result<(), Fail> {
     let (ten, twenty) = (vid(10)?, vid(20)?);
-    let mut under = Under::open(rt.alloc(), underlay(1), Vec::new(rt.alloc()))?;
+    let mut under = Under::open(rt.alloc(), underlay(rt.alloc(), 1), Vec::new(rt.alloc()))?;
     assert!(rt; adds_two_over_vxlan(&mut under, ten, twenty));
     assert!(rt; is_added(&mut under, ten, host4(2), Ok(())));
     let again = Err(FloodFault::AlreadyThere);
@@ -244,7 +247,7 @@ fn two_rules_tell_two_segments(rt: HostRuntime) -> Result<(), Fail> {
         rule(ten, tunnel(Tunnel::Vxlan, [0x00, 0x13, 0x88])),
         rule(twenty, tunnel(Tunnel::Geneve, [0x00, 0x13, 0x88])),
     ]?;
-    let under = Under::open(rt.alloc(), underlay(1), rules)?;
+    let under = Under::open(rt.alloc(), underlay(rt.alloc(), 1), rules)?;
     assert!(rt; under.tunnel_of(ten, Tunnel::Vxlan) == Some(vxlan_5000()));
     assert!(rt; under.tunnel_of(twenty, Tunnel::Geneve) == Some(geneve_5000()));
     Ok(())
@@ -261,7 +264,7 @@ fn has_settings(under: &Under) -> bool {
 
 #[test]
 fn the_settings_stay(rt: HostRuntime) -> Result<(), Fail> {
-    let under = Under::open(rt.alloc(), underlay(1), Vec::new(rt.alloc()))?;
+    let under = Under::open(rt.alloc(), underlay(rt.alloc(), 1), Vec::new(rt.alloc()))?;
     assert!(rt; has_settings(&under));
     Ok(())
 }

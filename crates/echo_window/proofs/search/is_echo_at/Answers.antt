@@ -1,4 +1,5 @@
-use Rattle.std.proofs.Common.{◌≡◌, ◌-◌, take, ap, ◌∙◌, suc, arith}
+use Rattle.std.proofs.Common.{◌≡◌, ◌-◌, ◌&&◌, ℕ, Bool, List, take, drop, refl, sym, ap, ◌∙◌, suc, arith}
+use Rattle.header_octets.specs.Octets.{is_same}
 use Rattle.echo_window.specs.Laid.{lengths, told}
 use Rattle.echo_window.specs.declared.kept.Kept.{Kept}
 use Rattle.echo_window.proofs.Indexing.{placed-at}
@@ -26,3 +27,10 @@ returns c =
     let begins : c.index-kept.result.now.at - c.args.index.now.passed ≡ lengths (take c.args.i items) = omega (arith, at, ap (λ (k : Kept). k.at) c.index-kept.ensures) in
     c.is_met_by.ensures
     ∙ asked-is c.args.within (told c.args.met.now) items c.args.row.now _ c.args.i (c.index-kept.result.now.at - c.args.index.now.passed) c.index-kept.result.now c.requires.inside c.index-kept.ensures begins c.part.ensures.octets
+
+pub returns-then-not-awaits : goal.returns-then-not-awaits
+returns-then-not-awaits c =
+    let items = c.args.frames.now.items in
+    let octets : List ℕ = take c.index-kept.result.now.length (drop (lengths (take c.args.i items)) c.args.row.now) in
+    sym (ap (λ (b : Bool). b && is_same octets (told c.args.met.now).frame) (sym c.awaits.ensures ∙ c.if-not-awaits.true))
+    ∙ asked-is c.args.within (told c.args.met.now) items c.args.row.now octets c.args.i (lengths (take c.args.i items)) c.index-kept.result.now c.requires.inside c.index-kept.ensures refl refl

@@ -23,5 +23,5 @@ returns c =
     (gives (defaulted at (codes "zero6") truth true) _ c.in_ok-zero6.zero6 _ (sym c.in_ok-zero6.ensures)
     (gives (partial_of version at) _ c.in_ok-partial.partial _ (sym c.in_ok-partial.ensures)
     (gives (listed at (codes "known") 16 put_known []) _ c.in_ok-known.known _ (sym (c.in_ok-known.ensures ∙ ap (listed at (codes "known") 16 put_known) c.new.ensures))
-    (gives (hops_of at) _ c.in_ok-hops.hops _ c.in_ok-hops.ensures
+    (gives (hops_of c.args.limits.hops at) _ c.in_ok-hops.hops _ c.in_ok-hops.ensures
     refl))))))))))))

@@ -1,17 +1,16 @@
-use Rattle.std.proofs.Common.{arith, rules}
+use Rattle.std.proofs.Common.{◌+◌, arith, rules}
 use Rattle.std.proofs.lemmas.List.Elements.{All-push}
 use Rattle.part_record.proofs.DigestText.{port_more}
 use Rattle.part_record.specs.Digests.{IsDigest}
 use Rattle.part_record.proofs.digest_lines.port_digests.Goals as goal
 
-pub loop-rest-preserved : goal.loop-rest-preserved
-loop-rest-preserved c =
-    let before = c.loop-rest.invariant in
+pub loop-digests-preserved : goal.loop-digests-preserved
+loop-digests-preserved c =
+    let before = c.loop-digests.invariant in
     record {
-      port = omega (arith, c.push.ensures.len);
       few = search rules;
-      digests = rw c.push.ensures.items (All-push IsDigest c.loop-rest.digests.items c.in-Some.found.0 before.digests c.in-Some.ensures.0);
+      digests = rw c.push.ensures.items (All-push IsDigest c.loop-digests.digests.items c.in-Some.found.0 before.digests c.in-Some.ensures.0);
       read = rw c.push.ensures.items
-          (port_more c.args.text.now c.loop-rest.digests.items c.loop-rest.rest.now c.in-Some.found.0 c.in-Some.found.1.now c.loop-rest.port before.port before.read c.in-Some.ensures.1);
+          (port_more c.args.text.now c.loop-digests.digests.items c.loop-digests.rest.now c.in-Some.found.0 c.in-Some.found.1.now (c.len.result + 1) (omega (arith, c.len.ensures.value)) before.read c.in-Some.ensures.1);
       text = search rules;
     }

@@ -45,7 +45,7 @@ returns-then-len-ports-clause-run g c =
     (subst (λ m. AnswersSieved (g.S.Sieve.taken c.args.sieve.now) c.args.segments.now (Ok c.args.read.settings) m e e (Err (stream.Run faults.PortCount))) (sym c.requires.told) (count_refused (g.S.Sieve.taken c.args.sieve.now) (g.S.Sieve.none c.args.sieve.now) c.args.segments.now c.args.read.settings c.args.read.changes.now e apart))
 
 pub run_with-requires-clause-few : goal.run_with-requires-clause-few
-run_with-requires-clause-few g c = omega (arith, c.if-len-ports.false, c.len.ensures, c.args.captures.now.ports.ok.0, ap length c.ports.ensures.value, c.ports.ensures.rules.port_count.1)
+run_with-requires-clause-few g c = omega (arith, c.if-len-ports.false, c.len.ensures, c.args.captures.now.ports.ok.0, ap length c.ports.ensures.value, c.ports.ensures.rules.port_count.1, c.ports.ensures.rules.underlay.port_limit.1)
 
 pub run_with-requires-clause-timely : goal.run_with-requires-clause-timely
 run_with-requires-clause-timely g c = timely c.args.read.changes.now c.requires.rising

@@ -6,5 +6,5 @@ use Rattle.tunnel_learning.proofs.step.put_remote.Given as goal
 abbrev pub invariant-loop-target : goal.invariant-loop-target
 invariant-loop-target l = record {
   items : l.places.items ++ filter (is_remote_outlet (config_of l.fn.bridge) l.fn.from) (map place_of (drop l.target-index l.target-items)) ≡ l.fn.places.items ++ remote_places (config_of l.fn.bridge) l.fn.from;
-  few : length l.places.items ≤ 16 + l.target-index;
+  few : length l.places.items ≤ 255 + l.target-index;
 }

@@ -1,4 +1,4 @@
-use Rattle.std.proofs.Common.{◌≡◌, ◌≤◌, IfOk, sym, ap, subst}
+use Rattle.std.proofs.Common.{◌≡◌, ◌≤◌, IfOk, sym, subst}
 use Rattle.std.specs.FinMap.{entries}
 use Rattle.endpoint_state.specs.State.{State as Bridges}
 use Rattle.endpoint_state.proofs.LaterLemmas.{held-later}

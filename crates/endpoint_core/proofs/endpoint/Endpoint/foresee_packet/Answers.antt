@@ -1,18 +1,24 @@
-use Rattle.std.proofs.Common.{◌≡◌, ◌≤◌, sym, ap, ◌∙◌, subst}
-use Rattle.endpoint_state.specs.Held.{state_at}
-use Rattle.endpoint_state.specs.State.{State as Bridges, aged}
+use Rattle.std.proofs.Common.{◌≤◌, List, sym, subst, length, IfOk}
+use Rattle.frame_view.specs.Tag.{IsVid}
+use Rattle.filter_db.specs.declared.place.Place.{Place}
+use Rattle.endpoint_state.specs.Held.{settings_of}
+use Rattle.endpoint_state.specs.State.{aged}
 use Rattle.endpoint_core.specs.Arrival.{came_by}
-use Rattle.endpoint_core.specs.Decision.{octets_of}
+use Rattle.endpoint_core.specs.Course.{CanLeave}
 use Rattle.endpoint_core.specs.Kept.{Kept, state_of}
-use Rattle.endpoint_core.specs.Step.{Decided, decided}
-use Rattle.endpoint_core.proofs.StepsLemmas.{told-earlier}
+use Rattle.endpoint_core.proofs.FewOutlets.{few_places}
 use Rattle.endpoint_core.proofs.endpoint.Endpoint.foresee_packet.Goals as goal
 
-pub returns : goal.returns
-returns c =
-    let held = c.self.inside.state in
-    let now = c.args.now in
-    let later = subst (λ (k : Kept). k.moment ≤ now) (sym c.self.view_is) c.requires in
-    let same = subst (λ (k : Kept). c.frame_in-came.result ≡ came_by (state_of k).bridges.settings.overlay c.args.original c.args.octets.now) (sym c.self.view_is) c.frame_in-came.ensures.value in
-    let told = told-earlier (λ (B : Bridges). decided now B c.frame_in-came.result) held c.self.inside.moment now (octets_of c.foreseen.result) later c.foreseen.ensures in
-    rw (← c.self.view_is) (ap Decided (told ∙ ap (decided now (aged now (state_at c.self.inside.moment held))) same))
+pub of-requires-clause-leave : goal.of-requires-clause-leave
+of-requires-clause-leave c =
+    let told = c.course_of_packet-course in
+    subst (λ (ps : List Place). CanLeave (settings_of c.self.inside.state) told.result ps) (sym c.as_slice.ensures.value)
+    (subst (λ (k : Kept). CanLeave (settings_of k.held) told.result told.new.places.items) (sym c.self.view_is) told.ensures.leave)
+
+pub of-requires-clause-few : goal.of-requires-clause-few
+of-requires-clause-few c =
+    let told = c.course_of_packet-course in
+    let bridges = (state_of c.args.self.now).bridges in
+    let S = bridges.settings in
+    subst (λ (ps : List Place). IfOk told.result (λ x. IsVid x.vid → length ps ≤ 32)) (sym c.as_slice.ensures.value)
+    (few_places S told.result told.new.places.items (came_by S.overlay c.args.original c.args.octets.now) c.args.now (aged c.args.now bridges) c.requires.few told.ensures.came told.ensures.answer)

@@ -1,8 +1,12 @@
-use Rattle.std.proofs.Common.{subst}
+use Rattle.std.proofs.Common.{◌≤◌, List, sym, subst, length, IfOk}
+use Rattle.frame_view.specs.Tag.{IsVid}
+use Rattle.filter_db.specs.declared.place.Place.{Place}
 use Rattle.endpoint_state.specs.Held.{settings_of}
+use Rattle.endpoint_state.specs.State.{aged}
 use Rattle.endpoint_core.specs.Arrival.{came_by}
 use Rattle.endpoint_core.specs.Course.{AreInParts}
-use Rattle.endpoint_core.specs.Kept.{Kept}
+use Rattle.endpoint_core.specs.Kept.{Kept, state_of}
+use Rattle.endpoint_core.proofs.FewOutlets.{few_places}
 use Rattle.endpoint_core.proofs.PartsLemmas.{in-parts}
 use Rattle.endpoint_core.proofs.endpoint.Endpoint.packet.Goals as goal
 
@@ -11,3 +15,11 @@ returns-clause-parts c =
     let came = came_by (settings_of c.args.self.now.held).overlay c.args.original c.args.octets.now in
     subst (λ (k : Kept). AreInParts (settings_of k.held) came c.of.result.outcomes) c.self.view_is
     (in-parts (settings_of c.self.inside.state) came c.take_packet-course.result c.as_slice.result.now c.of.result.outcomes c.take_packet-course.ensures.came c.of.ensures.parts)
+
+pub of-requires-clause-few : goal.of-requires-clause-few
+of-requires-clause-few c =
+    let told = c.take_packet-course in
+    let bridges = (state_of c.args.self.now).bridges in
+    let S = bridges.settings in
+    subst (λ (ps : List Place). IfOk told.result (λ x. IsVid x.vid → length ps ≤ 32)) (sym c.as_slice.ensures.value)
+    (few_places (state_of told.new.self).bridges.settings told.result told.new.places.items (came_by S.overlay c.args.original c.args.octets.now) c.args.now (aged c.args.now bridges) c.requires.few told.ensures.came told.ensures.answer)

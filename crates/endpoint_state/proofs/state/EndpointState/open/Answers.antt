@@ -36,6 +36,14 @@ open-requires-3-clause-listed c =
     subst (λ (x : List PortRule). IsTrue (list_all (lists_ports (length x)) c.as_slice-4.result.now)) (sym numbered)
     (subst (λ (x : List MemberRule). IsTrue (list_all (lists_ports (length c.args.settings.ports)) x)) (sym members) (ports_listed c.args.settings c.into_parts-told.ensures.rules))
 
+pub open-requires-3-clause-few : goal.open-requires-3-clause-few
+open-requires-3-clause-few c =
+    let same = c.told.view_is ∙ c.into_parts-told.ensures.value in
+    let numbered = c.as_slice-3.ensures.value ∙ ap (λ (s : Settings). s.ports) same in
+    let few = c.into_parts-told.ensures.rules.port_count.1 in
+    let most = c.into_parts-told.ensures.rules.underlay.port_limit.1 in
+    omega (arith, ap length numbered, few, most)
+
 pub open-requires-4-clause-apart : goal.open-requires-4-clause-apart
 open-requires-4-clause-apart c =
     let same = c.told.view_is ∙ c.into_parts-told.ensures.value in

@@ -8,5 +8,5 @@ returns g c =
     let s = c.self.inside in
     c.has_line.ensures
     ∙ ap (λ (l : List ℕ). has_line (take (s.lent.read - s.lent.end) (drop s.lent.end l))) c.deref.ensures.value
-    ∙ ap has_line (sliced s.room.items s.lent.end s.lent.read c.self.invariant.2)
+    ∙ ap has_line (sliced s.room.items s.lent.end s.lent.read c.self.invariant.end)
     ∙ ap holds_line c.self.view_is

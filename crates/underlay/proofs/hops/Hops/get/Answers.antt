@@ -1,31 +1,19 @@
-use Rattle.std.proofs.Common.{◌≡◌, ◌∙◌, arith, sym, ap, length, Some}
+use Rattle.std.proofs.Common.{◌≡◌, ◌∙◌, arith, sym, length}
 use Rattle.std.specs.Cmp.Lexicographic.{nat_list_cmp_total}
 use Rattle.ip_udp_view.specs.Addr.{address}
-use Rattle.underlay.specs.declared.hops.Hop.{Hop}
 use Rattle.underlay.proofs.HopsLemmas.{within, hop_at, none_of}
 use Rattle.underlay.proofs.SearchLemmas.{found_place, gap_place, get_in_gap}
 use Rattle.underlay.proofs.hops.Hops.get.Goals as goal
 
-pub offset_bounds-deref-place : goal.offset_bounds-deref-place
-offset_bounds-deref-place c =
+pub index-requires : goal.index-requires
+index-requires c =
     let at = found_place c.args.self.now (address c.args.addr) c.search.result c.in_ok-place.place c.search.ensures c.in_ok-place.ensures.value in
-    omega (arith, c.deref.ensures.1, ap length c.deref.ensures.0, within c.self.inside.exceptions.items c.args.self.now c.self.invariant c.self.view_is c.in_ok-place.place at.0)
-
-pub bounds-deref-place : goal.bounds-deref-place
-bounds-deref-place c =
-    let at = found_place c.args.self.now (address c.args.addr) c.search.result c.in_ok-place.place c.search.ensures c.in_ok-place.ensures.value in
-    omega (arith, ap length c.deref.ensures.0, within c.self.inside.exceptions.items c.args.self.now c.self.invariant c.self.view_is c.in_ok-place.place at.0)
-
-pub bounds-deref-place-in_ok-place : goal.bounds-deref-place-in_ok-place
-bounds-deref-place-in_ok-place c =
-    let at = found_place c.args.self.now (address c.args.addr) c.search.result c.in_ok-place.place c.search.ensures c.in_ok-place.ensures.value in
-    omega (arith, ap length c.deref.ensures.0, within c.self.inside.exceptions.items c.args.self.now c.self.invariant c.self.view_is c.in_ok-place.place at.0)
+    omega (arith, c.self.inside.exceptions.ok.0, within c.self.inside.exceptions.items c.args.self.now c.self.invariant c.self.view_is c.in_ok-place.place at.0)
 
 pub returns : goal.returns
 returns c =
     let at = found_place c.args.self.now (address c.args.addr) c.search.result c.in_ok-place.place c.search.ensures c.in_ok-place.ensures.value in
-    ap (λ (h : Hop). Some h.mac) (sym c.index-deref-place.is)
-    ∙ sym (hop_at c.deref.result.now c.args.self.now (rw c.deref.ensures.0 c.self.invariant) (rw c.deref.ensures.0 c.self.view_is) (address c.args.addr) c.in_ok-place.place c.index-deref-place.result at c.index-deref-place.is)
+    sym (hop_at c.self.inside.exceptions.items c.args.self.now c.self.invariant c.self.view_is (address c.args.addr) c.in_ok-place.place c.index.result.now at c.index.ensures)
 
 pub returns-in_err-place : goal.returns-in_err-place
 returns-in_err-place c =

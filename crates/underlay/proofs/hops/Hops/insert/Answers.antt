@@ -1,25 +1,19 @@
 use Rattle.std.proofs.Common.{arith, []}
 use Rattle.std.specs.Cmp.Lexicographic.{nat_list_cmp_total}
 use Rattle.ip_udp_view.specs.Addr.{address}
-use Rattle.underlay.proofs.HopsLemmas.{up_to, length_is, hop_put}
+use Rattle.underlay.proofs.HopsLemmas.{up_to, hop_put}
 use Rattle.underlay.proofs.SearchLemmas.{get_at}
 use Rattle.underlay.proofs.hops.Hops.insert.Goals as goal
 
 pub insert-requires : goal.insert-requires
-insert-requires c = (
-  omega arith,
-  (
-    up_to c.self.inside.exceptions.items c.args.self.now c.self.invariant c.self.view_is c.in-Err.place c.in-Err.ensures.0,
-    omega (arith, c.requires.room, length_is c.self.inside.exceptions.items c.args.self.now c.self.invariant c.self.view_is),
-  ),
-)
+insert-requires c = omega (arith, c.self.inside.exceptions.ok.0, up_to c.self.inside.exceptions.items c.args.self.now c.self.invariant c.self.view_is c.in-Err.place c.in-Err.ensures.0)
 
 pub invariant_of-self : goal.invariant_of-self
-invariant_of-self c = (hop_put c.self.inside.exceptions.items c.args.self.now c.self.invariant c.self.view_is c.insert.new.self.items c.in-Err.place (record { addr = c.args.addr; mac = c.args.mac }) c.in-Err.ensures c.insert.ensures.items).0
+invariant_of-self c = (hop_put c.self.inside.exceptions.items c.args.self.now c.self.invariant c.self.view_is c.insert.new.self.items c.in-Err.place (record { addr = c.args.addr; mac = c.args.mac }) c.in-Err.ensures c.in_ok-insert.ensures.items).0
 
-pub returns-in-Err : goal.returns-in-Err
-returns-in-Err c = (hop_put c.self.inside.exceptions.items c.args.self.now c.self.invariant c.self.view_is c.insert.new.self.items c.in-Err.place (record { addr = c.args.addr; mac = c.args.mac }) c.in-Err.ensures c.insert.ensures.items).1
+pub returns-in_ok-insert-clause-added : goal.returns-in_ok-insert-clause-added
+returns-in_ok-insert-clause-added c = (hop_put c.self.inside.exceptions.items c.args.self.now c.self.invariant c.self.view_is c.insert.new.self.items c.in-Err.place (record { addr = c.args.addr; mac = c.args.mac }) c.in-Err.ensures c.in_ok-insert.ensures.items).1
 
 -- it is there
-pub returns-in_default : goal.returns-in_default
-returns-in_default c = absurd (grind (arith, get_at nat_list_cmp_total c.args.self.now (address c.args.addr) c.in_default.field-0 ([], []) c.in_default.ensures, c.requires.new))
+pub returns-in_default-clause-added : goal.returns-in_default-clause-added
+returns-in_default-clause-added c = absurd (grind (arith, get_at nat_list_cmp_total c.args.self.now (address c.args.addr) c.in_default.field-0 ([], []) c.in_default.ensures, c.requires))

@@ -1,6 +1,6 @@
-use Rattle.std.proofs.Common.{◌∙◌, sym}
+use Rattle.std.proofs.Common.{arith}
 use Rattle.underlay.proofs.HopsLemmas.{length_is}
 use Rattle.underlay.proofs.hops.Hops.len.Goals as goal
 
-pub returns-clause-value : goal.returns-clause-value
-returns-clause-value c = c.len.ensures.value ∙ sym (length_is c.self.inside.exceptions.items c.args.self.now c.self.invariant c.self.view_is)
+pub returns : goal.returns
+returns c = omega (arith, c.len.ensures, c.self.inside.exceptions.ok.0, length_is c.self.inside.exceptions.items c.args.self.now c.self.invariant c.self.view_is)

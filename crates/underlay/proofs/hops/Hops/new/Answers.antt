@@ -8,4 +8,4 @@ use Rattle.underlay.proofs.SearchLemmas.{from_sorted-none}
 use Rattle.underlay.proofs.hops.Hops.new.Goals as goal
 
 pub returns : goal.returns
-returns c = ap (λ (l : List Hop). from_sorted {R = slice_cmp nat_cmp} (map exception l)) c.new.ensures ∙ from_sorted-none nat_list_cmp_total
+returns c = ap (λ (l : List Hop). from_sorted {R = slice_cmp nat_cmp} (map exception l)) c.new.ensures.items ∙ from_sorted-none nat_list_cmp_total

@@ -1,17 +1,14 @@
-use Rattle.std.proofs.Common.{◌<◌, ◌∙◌, length, sym, ap, arith}
-use Rattle.std.specs.FinMap.{get}
-use Rattle.std.specs.Option.{option_and_then}
-use Rattle.vlan_ports.specs.Ports.{Members}
-use Rattle.vlan_ports.proofs.PortsLemmas.{read-members}
+use Rattle.std.proofs.Common.{◌<◌, ◌∙◌, sym, ap, arith}
+use Rattle.vlan_ports.specs.Bits.{egress_in}
+use Rattle.vlan_ports.proofs.PortsLemmas.{read-egress, no_egress}
 use Rattle.vlan_ports.proofs.port_set.PortSet.egress.Goals as goal
 
-pub returns-in-Some : goal.returns-in-Some
-returns-in-Some c =
-    let lt : c.args.vid < length c.self.inside.segments.items = omega arith in
-    c.at.ensures
-    ∙ ap (option_and_then (λ (m : Members). get m c.args.port)) (sym c.in-Some.is ∙ read-members _ _ _ _ _ _ c.self.view_is c.index.ensures (c.from.ensures ∙ c.get.ensures.value) lt)
+pub returns-then-not-has : goal.returns-then-not-has
+returns-then-not-has c = no_egress c.args.self.now c.args.vid c.args.port (sym c.has.ensures ∙ c.if-not-has.true)
 
-pub returns-in-None : goal.returns-in-None
-returns-in-None c =
-    let lt : c.args.vid < length c.self.inside.segments.items = omega arith in
-    ap (option_and_then (λ (m : Members). get m c.args.port)) (sym c.in-None.is ∙ read-members _ _ _ _ _ _ c.self.view_is c.index.ensures (c.from.ensures ∙ c.get.ensures.value) lt)
+pub returns : goal.returns
+returns c =
+    let small : c.args.vid < 4096 = omega arith in
+    c.egress.ensures ∙ ap (λ words. egress_in words c.args.vid c.args.port) c.as_slice.ensures.value
+    ∙ read-egress c.self.inside.ports.items c.self.inside.words.items c.args.self.now c.args.vid c.self.view_is small c.args.port c.requires.low c.requires.high
+    (sym c.has.ensures ∙ c.if-not-has.false)

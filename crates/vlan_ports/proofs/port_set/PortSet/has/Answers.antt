@@ -1,9 +1,10 @@
-use Rattle.std.proofs.Common.{◌<◌, ◌∙◌, length, ap, arith}
-use Rattle.std.specs.Prelude.{is_some}
-use Rattle.vlan_ports.proofs.PortsLemmas.{read-members}
+use Rattle.std.proofs.Common.{◌<◌, ◌∙◌, ap, arith}
+use Rattle.vlan_ports.specs.Bits.{stands_in}
+use Rattle.vlan_ports.proofs.PortsLemmas.{read-has}
 use Rattle.vlan_ports.proofs.port_set.PortSet.has.Goals as goal
 
 pub returns : goal.returns
 returns c =
-    let lt : c.args.vid < length c.self.inside.segments.items = omega arith in
-    c.is_some.ensures ∙ ap is_some (read-members _ _ _ _ _ _ c.self.view_is c.index.ensures (c.from.ensures ∙ c.get.ensures.value) lt)
+    let small : c.args.vid < 4096 = omega arith in
+    c.stands.ensures ∙ ap (λ words. stands_in words c.args.vid) c.as_slice.ensures.value
+    ∙ read-has c.self.inside.ports.items c.self.inside.words.items c.args.self.now c.args.vid c.self.view_is small

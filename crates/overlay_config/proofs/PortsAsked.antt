@@ -1,0 +1,104 @@
+-- Settings that ask for no limit of ports and none of next hops mean what they meant before they could.
+use Rattle.std.proofs.Common.{◌≡◌, ℕ, codes, Bool, true, false, cond, ◌&&◌, nat_le, List, [], ◌∷◌, length, Option, Some, None, option_and_then, Ok, ℤ, pos, negsuc, refl, sym, ap, subst, ◌∙◌, lit≤, arith}
+use Rattle.std.proofs.lemmas.Bool.{and_parts, leb-true, le-leb, false≢true}
+use Rattle.toml.specs.Data.{Data, Members, as_integer, get_member}
+use Rattle.underlay.specs.declared.limits.Limits.{Limits}
+use Rattle.underlay.specs.Settings.{own}
+use Rattle.config_text.specs.Fault.{Meaning, ◌>>=◌}
+use Rattle.config_text.specs.Column.{in_range, range}
+use Rattle.config_text.specs.Table.{Place, top, path, default_value, defaulted, only, subtable, required_items, each}
+use Rattle.overlay_settings.specs.Settings.{Settings}
+use Rattle.overlay_config.specs.declared.version.Version.{Version}
+use Rattle.overlay_config.specs.declared.version.Version.TheVariants.{One, Two, Three}
+use Rattle.overlay_config.specs.BeforePorts as before
+use Rattle.overlay_config.specs.Limits.{addresses_in, usual_limits, limit_keys, limits_in, limits_of}
+use Rattle.overlay_config.specs.Port.{port_of}
+use Rattle.overlay_config.specs.Underlay.{underlay_of}
+use Rattle.overlay_config.specs.Settings.{segments_of, version_of, given_pool_of, pool_for, settings_of}
+use Rattle.overlay_config.proofs.Readings.{bind_then, ok_is, when_ok}
+use Rattle.overlay_config.proofs.SegmentKept.{gives, only_known, known_only}
+use Rattle.overlay_config.proofs.Asked.{known_same, unknown_gone}
+use Rattle.overlay_config.proofs.Third.{fits_more}
+
+-- ---- more addresses
+
+both : (a b : Bool) → a ≡ true → b ≡ true → (a && b) ≡ true
+both true b left right = right
+both false b left right = absurd (false≢true left)
+
+kept : (b : Bool) (n x : ℕ) → b ≡ true → n ≡ x → cond b (Some n) None ≡ Some x
+kept true n x is same = ap Some same
+kept false n x is same = absurd (false≢true is)
+
+in_more : (z : ℤ) (x : ℕ) → in_range 1 262144 z ≡ Some x → in_range 1 1048576 z ≡ Some x
+in_more (negsuc n) x e = absurd cc
+in_more (pos n) x e =
+    let k = when_ok (nat_le 1 n && nat_le n 262144) n x e in
+    let p = and_parts (nat_le 1 n) (nat_le n 262144) k.0 in
+    kept (nat_le 1 n && nat_le n 1048576) n x (both (nat_le 1 n) (nat_le n 1048576) p.0 (le-leb n 1048576 (omega (arith, leb-true n 262144 p.1)))) k.1
+
+integer_more : (o : Option ℤ) (x : ℕ) → option_and_then (in_range 1 262144) o ≡ Some x → option_and_then (in_range 1 1048576) o ≡ Some x
+integer_more None x e = absurd cc
+integer_more (Some z) x e = in_more z x e
+
+addresses_more : (p : List ℕ) (o : Option Data) (x : ℕ) → default_value p (range 1 262144) 65536 o ≡ Ok x → default_value p (range 1 1048576) 65536 o ≡ Ok x
+addresses_more p None x e = e
+addresses_more p (Some d) x e = fits_more p (range 1 262144 d) (range 1 1048576 d) x (integer_more (as_integer d)) e
+
+-- ---- the limits
+
+in_kept : (at : Place) (l : Limits) → before.limits_in at ≡ Ok l → (limits_in at ≡ Ok l) × (16 ≡ l.ports)
+unfolding before.limits_in limits_in
+in_kept at l e =
+    bind_then (only at before.limit_keys) _ l e (λ known known-is e0.
+    bind_then (defaulted at (codes "segments") (range 1 4094) 256) _ l e0 (λ segments segments-is e1.
+    bind_then (defaulted at (codes "entries") (range 1 131072) 8192) _ l e1 (λ entries entries-is e2.
+    bind_then (defaulted at (codes "addresses") (range 1 262144) 65536) _ l e2 (λ addresses addresses-is e3.
+    let all = only_known at before.limit_keys known known-is in
+    let no-ports : get_member (codes "ports") at.members ≡ None = unknown_gone before.limit_keys (codes "ports") at.members refl all in
+    let no-hops : get_member (codes "hops") at.members ≡ None = unknown_gone before.limit_keys (codes "hops") at.members refl all in
+    let all-now =
+    known_same [] (codes "ports") (codes "segments" ∷ codes "hops" ∷ codes "entries" ∷ codes "addresses" ∷ []) at.members no-ports
+    ∙ known_same (codes "segments" ∷ []) (codes "hops") (codes "entries" ∷ codes "addresses" ∷ []) at.members no-hops
+    ∙ all in (
+      gives (only at limit_keys) _ known l (known_only at limit_keys known all-now)
+          (gives (defaulted at (codes "ports") (range 1 255) 16) _ 16 l (ap (default_value (path at (codes "ports")) (range 1 255) 16) no-ports)
+          (gives (defaulted at (codes "segments") (range 1 4094) 256) _ segments l segments-is
+          (gives (defaulted at (codes "hops") (range 1 4096) 64) _ 64 l (ap (default_value (path at (codes "hops")) (range 1 4096) 64) no-hops)
+          (gives (defaulted at (codes "entries") (range 1 131072) 8192) _ entries l entries-is
+          (gives (defaulted at (codes "addresses") (range 1 1048576) 65536) _ addresses l
+          (addresses_more (path at (codes "addresses")) (get_member (codes "addresses") at.members) addresses addresses-is) e3))))),
+      ap (λ (m : Limits). m.ports) (ok_is _ l e3),
+    )))))
+
+limits_kept : (v : Version) (at : Place) (l : Limits) → before.limits_of v at ≡ Ok l → (limits_of v at ≡ Ok l) × (16 ≡ l.ports)
+limits_kept One at l e = (e, ap (λ (m : Limits). m.ports) (ok_is usual_limits l e))
+limits_kept Two at l e = (e, ap (λ (m : Limits). m.ports) (ok_is usual_limits l e))
+limits_kept Three at l e =
+    bind_then (subtable at (codes "limits")) before.limits_in l e (λ table table-is e0.
+    let k = in_kept table l e0 in
+    (gives (subtable at (codes "limits")) limits_in table l table-is k.0, k.1))
+
+-- ---- all settings
+
+-- what meant something before means the same
+pub sixteen_same : (ms : Members) (s : Settings) → before.settings_of ms ≡ Ok s → settings_of ms ≡ Ok s
+unfolding before.settings_of settings_of
+sixteen_same ms s e =
+    let at : Place = top ms in
+    bind_then (version_of at) _ s e (λ version version-is e0.
+    bind_then (given_pool_of (before.addresses_in (before.limits_of version at)) at) _ s e0 (λ given given-is e1.
+    bind_then (before.limits_of version at) _ s e1 (λ limits limits-is e2.
+    bind_then (subtable at (codes "underlay")) _ s e2 (λ below below-is e3.
+    bind_then (underlay_of version limits below) _ s e3 (λ underlay underlay-is e4.
+    bind_then (required_items at (codes "port") 16) _ s e4 (λ tables tables-is e5.
+    let k = limits_kept version at limits limits-is in
+    let given-now : given_pool_of (addresses_in (limits_of version at)) at ≡ Ok given =
+    ap (λ (m : Meaning Limits). given_pool_of (addresses_in m) at) k.0
+    ∙ sym (ap (λ (m : Meaning Limits). given_pool_of (before.addresses_in m) at) limits-is) ∙ given-is in
+    gives (version_of at) _ version s version-is
+    (gives (given_pool_of (addresses_in (limits_of version at)) at) _ given s given-now
+    (gives (limits_of version at) _ limits s k.0
+    (gives (subtable at (codes "underlay")) _ below s below-is
+    (gives (underlay_of version limits below) _ underlay s underlay-is
+    (gives (required_items at (codes "port") limits.ports) _ tables s (subst (λ (n : ℕ). required_items at (codes "port") n ≡ Ok tables) k.1 tables-is) e5)))))))))))

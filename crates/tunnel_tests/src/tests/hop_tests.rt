@@ -23,10 +23,11 @@ fn mac(number: u16) -> Mac {
 
 /// Puts the exception of this number, where there is none.
 fn put_hop(hops: &mut Hops, number: u16) -> Result<(), AllocError> {
-    if hops.get(host(number)).is_some() {
+    let addr = host(number);
+    if hops.get(addr).is_some() {
         return Ok(());
     }
-    hops.insert(host(number), mac(number))
+    hops.insert(addr, mac(number))
 }
 
 /// Puts those of all numbers of 12 bits. Each is 1,237 behind the one before it, which is odd, so that each comes once and

@@ -5,6 +5,7 @@ import sys
 
 FORMATS = open("docs/FORMATS.md", encoding="utf-8").read()
 ALLOWED = open("crates/text_advice/src/allowed.rt", encoding="utf-8").read()
+CHANGES_ALLOWED = open("crates/text_advice/src/allowed_changes.rt", encoding="utf-8").read()
 KNOWN = open("crates/text_advice/src/known.rt", encoding="utf-8").read()
 STRING = r'"(?:[^"\\]|\\.)*"'
 RANGES = re.compile(r"\d+ to \d+|at most \d+")
@@ -98,7 +99,7 @@ for row in wanted.keys() | settings.keys():
         complain(f"settings, {row}: {settings.get(row)}, and docs/FORMATS.md has {wanted.get(row)}")
 
 # Of changes, which have sentences of their own.
-of_changes = {path: text for path, variant, fault, text in code_rows(ALLOWED, "CHANGE_SENTENCES") if not fault and not variant}
+of_changes = {path: text for path, variant, fault, text in code_rows(CHANGES_ALLOWED, "CHANGE_SENTENCES") if not fault and not variant}
 changes = {(path, variant): keys for path, variant, keys in code_rows(KNOWN, "CHANGE_KEYS")}
 wanted = {("*", ""): {"version", "change"}}
 for kinds, keys in table("## Changes", "`kind`"):

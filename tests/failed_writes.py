@@ -18,13 +18,24 @@ from pathlib import Path
 TOP = Path(__file__).resolve().parent.parent
 TEP = os.environ.get("TEP", str(TOP / "tep"))
 HEADER = bytes.fromhex("4d3cb2a10200040000000000000000000000040001000000")
-SETTINGS = TOP / "examples" / "a.toml"
+SETTINGS = (TOP / "examples" / "a.toml").read_text()
 CAPTURES = ["port1.pcap", "port2.pcap", "port3.pcap", "underlay.pcap"]
 OUTPUTS = CAPTURES + ["decisions.txt"]
 
 
+def long_lists(remotes):
+    """Settings of three ports in a segment of so many remotes: its lines are longer than any that few ports and remotes have."""
+    flood = ", ".join(f'"198.18.{n >> 8}.{n & 255}"' for n in range(remotes))
+    return (
+        f"version = 3\n[limits]\nflood = {remotes}\n[underlay]\n"
+        'mac = "02:00:00:00:aa:01"\nnext_hop = "02:00:00:00:aa:fe"\nip4 = "192.0.2.1"\n' + "[[port]]\npvid = 10\n" * 3 +
+        "[[segment]]\nvid = 10\nuntagged = [1, 2, 3]\n"
+        f'[[segment.tunnel]]\nkind = "vxlan"\nvni = 5000\nflood = [{flood}]\n'
+    )
+
+
 def frame(octets):
-    """A frame to everybody, which leaves through two ports and to a remote."""
+    """A frame to everybody, which leaves through two ports and to each remote."""
     return b"\xff" * 6 + bytes.fromhex("020000000001" "0806") + bytes(octets - 14)
 
 
@@ -37,13 +48,16 @@ def capture(events, flooded, octets):
     return HEADER + b"".join(record(n, frame(octets) if n % flooded == 0 else b"\xff" * 10) for n in range(events))
 
 
-# Many lines and few records; many records; long records.
+# Many lines and few records; many records; long records; lines of some 650 and some 8,500 octets, each second one.
 TRAFFIC = {
     "many lines": capture(6000, 40, 60),
     "many records": capture(3000, 1, 60),
     "long records": capture(2000, 1, 1000),
     "few events": capture(20, 1, 60),
+    "lines to 40": capture(600, 2, 60),
+    "lines to 512": capture(60, 2, 60),
 }
+LONG_LISTS = {"lines to 40": long_lists(40), "lines to 512": long_lists(512)}
 # A record with a fault.
 FAULTY = struct.pack("<IIII", 9000, 0, 262145, 262145)
 
@@ -68,11 +82,12 @@ class Case:
 
     def __init__(self, traffic, behind=b""):
         self.path = Path(tempfile.mkdtemp())
+        (self.path / "settings.toml").write_text(LONG_LISTS.get(traffic, SETTINGS))
         (self.path / "1.pcap").write_bytes(TRAFFIC[traffic] + behind)
         (self.path / "empty.pcap").write_bytes(HEADER)
         self.behind = behind
         self.what = traffic
-        self.run = ["run", "-s", SETTINGS, "-u", "empty.pcap", "-o", "out", "1.pcap", "empty.pcap", "empty.pcap"]
+        self.run = ["run", "-s", "settings.toml", "-u", "empty.pcap", "-o", "out", "1.pcap", "empty.pcap", "empty.pcap"]
         self.whole = self.made(self.run, {})[2]
 
     def __enter__(self):

@@ -28,6 +28,9 @@ vid = 10
 vni = 5000
 tunnel = "vxlan"
 """
+# One whose segment may have 512 remotes.
+many = good.replace("version = 1", "version = 3\n[limits]\nflood = 512").replace("vni =", "[[segment.tunnel]]\nvni =")
+many = many.replace("tunnel =", "kind =")
 deep = 65_536
 texts = {
     "settings": [
@@ -46,6 +49,8 @@ texts = {
         ("BadValue version", good.replace("= 1", '= "' + "\\u0041" * (million // 6) + '"', 1)),
         ("OverLimit underlay.known", good.replace("[[port]]", "known = [" + "[1, 1]," * (million // 7) + "]\n[[port]]")),
         ("OverLimit segment.1.flood", good + "flood = [" + '"192.0.2.2",' * (million // 12) + "]\n"),
+        ("OverLimit segment.1.tunnel.1.flood", many + "flood = [" + '"192.0.2.2",' * (million // 12) + "]\n"),
+        ("BadValue segment.1.tunnel.1.flood", many + "flood = [" + '"192.0.2.2",' * 512 + "]\n"),
         ("OverLimit port", good + "[[port]]\n" * 100_000),
         ("OverLimit segment", good + "[[segment]]\n" * 80_000),
         ("NotToml", good + "1" * million + "\n" + good),

@@ -1,4 +1,5 @@
-"""Packets and frames cut at every length, the longest ones, and the most that settings and changes may hold.
+"""Packets and frames cut at every length, the longest ones, the most that settings and changes may hold, and a frame to every
+place that there may be.
 
 What is expected was worked out by hand from RFC 7348, RFC 8926, IEEE 802.1Q and docs/FORMATS.md, never taken from a run.
 """
@@ -180,7 +181,7 @@ def all_limits_hold_at_once():
         captures.of["p1"] += runs.record(n * 10**9, frame)
         wanted.append(f"{n} {n * 10**9} p1 {n} {vid} {FROM_PORT_1}")
     told = runs.Run(settings, "", captures, words=["run", "--summary"])
-    expect_lines("a frame to every place", told.said(), wanted)
+    expect_lines("a frame to 31 places", told.said(), wanted)
     summary = [line for line in told.stdout.splitlines() if line.startswith("segment")]
     expect_lines("what the segments sent", "\n".join(summary), [f"segment {vid} sent 31" for vid in vids])
     captures = runs.Captures(ports=16)
@@ -191,6 +192,45 @@ def all_limits_hold_at_once():
     expect_lines("a packet to every port", runs.Run(settings, "", captures).said(), wanted)
     checked = runs.ends(["check", "-s", "/dev/stdin"], settings.encode()).stdout.decode()
     expect_lines("the greatest settings", checked, ["ok: 16 ports, 256 segments, 0 changes"])
+
+
+# The ports and the remote endpoints that a frame may leave for, by settings of version 3; remotes stand with all their digits.
+PORTS, REMOTES = 255, [f"2001:0db8:0000:0000:0000:0000:0001:{n:04x}" for n in range(512)]
+
+
+def every_place():
+    """Settings with a segment of every port, half of them untagged, and of as many remotes, all of them over Geneve. There is
+    no remote over VXLAN, which is in a horizon group of its own."""
+    flood = ", ".join(f'"{remote}"' for remote in REMOTES)
+    return (
+        f"version = 3\n{runs.underlay(1)}[limits]\nports = {PORTS}\nflood = {len(REMOTES)}\n{runs.PORT * PORTS}"
+        f"[[segment]]\nvid = 10\nuntagged = {list(range(1, 129))}\ntagged = {list(range(129, PORTS + 1))}\n"
+        f'[[segment.tunnel]]\nkind = "vxlan"\nvni = 5000\ngroup = 1\n'
+        f'[[segment.tunnel]]\nkind = "geneve"\nvni = 6000\ngroup = 2\nflood = [{flood}]\n'
+    )
+
+
+def a_frame_goes_to_every_place():
+    """A broadcast from a port goes to 766 places, and one from the other horizon group to 767. One with a second tag goes to
+    the ports alone, and the longest word is told of each remote. Headers of 70 octets (Ethernet 14, IPv6 40, UDP 8, Geneve 8) come
+    in front."""
+    captures = runs.Captures(ports=PORTS)
+    captures.of["p1"] += runs.record(10**9, runs.octets("ALL M1 0806 00*46"))
+    captures.of["u"] += runs.record(2 * 10**9, runs.octets("OUTER21 08000000 00138800 ALL M5 0806 00*46"))
+    captures.of["p1"] += runs.record(3 * 10**9, runs.octets("ALL M1 8100000A 8100000B 0806 00*42"))
+    ports = [f"p{port}={60 if port < 129 else 64}" for port in range(1, PORTS + 1)]
+    remotes = [f"geneve:{remote}=130" for remote in REMOTES]
+    wanted = [
+        "1 1000000000 p1 1 10 " + " ".join(ports[1:] + remotes),
+        "2 2000000000 u 1 10 " + " ".join(ports + remotes),
+        "3 3000000000 p1 2 10 " + " ".join(ports[1:] + [f"geneve:{remote}!InnerTagOut" for remote in REMOTES]),
+    ]
+    told = runs.Run(every_place(), "", captures, words=["run", "--summary"])
+    expect_lines("a frame to every place", told.said(), wanted)
+    summary = [line for line in told.stdout.splitlines() if line.startswith(("segment", "remote"))]
+    counts = [f"segment 10 sent {766 + 767 + 254}", "segment 10 dropped 40 InnerTagOut 512", "remote vxlan:192.0.2.2 in 1 110 out 0 0"]
+    counts += [f"remote geneve:{remote} in 0 0 out 2 260" for remote in REMOTES]
+    expect_lines("what every place is counted", "\n".join(summary), counts)
 
 
 def more_tunnels_than_rows():
@@ -230,6 +270,7 @@ def main():
     all_changes_are_made(10_000)
     all_changes_are_made(100_000, "version = 2\n")
     all_limits_hold_at_once()
+    a_frame_goes_to_every_place()
     more_tunnels_than_rows()
     more_talkers_than_rows()
     for fault in FAULTS:

@@ -25,6 +25,7 @@ calls="
 none 1 start 0
 line_of 148 none 0
 settings_of 68 none 0
+settings_of_long 92 none 0
 migrate 49 none 0
 changes_of 26 none 0
 check_text 98 none 0
@@ -38,15 +39,17 @@ read_text 1 none 0
 ListTables 3 none 0
 SharedTables 3 none 0
 PortSet 2 settings_of 0
-Under 4 settings_of 0
-EndpointState 13 settings_of 0
-Endpoint 14 settings_of 0
+Under 5 settings_of 0
+Under_long 8 settings_of_long 0
+EndpointState 14 settings_of 0
+Endpoint 15 settings_of 0
+Endpoint_long 18 settings_of_long 0
 append_to 1 Endpoint 1
 result_text 3 Endpoint 0
-sample 88 none 0
-explain_bytes 56 none 0
-run_bytes 91 none 1
-run_streams 79 none 4
+sample 89 none 0
+explain_bytes 57 none 0
+run_bytes 92 none 1
+run_streams 80 none 4
 "
 
 # fail SENTENCE: this isn't as it should be

@@ -1,5 +1,6 @@
-"""Cuts the run of each worked row of tests/rows/ into each pair of parts, and puts them together again: files, tables and counts
-are those of the whole run, octet for octet. The parts share the segments 10 and 20, all others, and what comes to none."""
+"""Cuts the run of each worked row of tests/rows/ and of tests/flood_rows.py into each pair of parts, and puts them together
+again: files, tables and counts are those of the whole run, octet for octet. The parts share the segments 10 and 20, all others,
+and what comes to none."""
 import concurrent.futures
 import os
 import pathlib
@@ -55,7 +56,7 @@ def faults(row):
 
 def main():
     wrong = count = 0
-    all_rows = [row for row in rows.rows() if row.words[0] == "run"]
+    all_rows = [row for row in [*rows.rows(), *rows.long_floods()] if row.words[0] == "run"]
     with concurrent.futures.ThreadPoolExecutor(os.cpu_count()) as pool:
         for row, (told, is_run) in zip(all_rows, pool.map(faults, all_rows)):
             count += is_run

@@ -1,9 +1,10 @@
-"""Runs each row of tests/rows/ through the program, and compares what it says and writes, octet for octet.
+"""Runs each row of tests/rows/ and of flood_rows.py through the program, and compares what it says and writes, octet for octet.
 
 A row is a name behind `==`, and a run told line by line; a line that begins with `#` belongs to none:
 - `A`, `B` and `L` stand for the settings of an endpoint, of its peer, and of a learning bridge alone; `A2` for those of the
   endpoint in version 2, one of its segments with two tunnels; `T` for those of an endpoint that forgets; `ports16`,
-  `ports17` and `ports255` for those of a learning bridge of so many ports;
+  `ports17` and `ports255` for those of a learning bridge of so many ports; `flood1` and so on for those of an endpoint whose
+  segments may flood to so many remotes;
 - `~ OLD => NEW` puts NEW for OLD in the settings, a `;` in either being the end of a line;
 - `migrate` takes the settings as `tep migrate` writes them in version 2;
 - `c KEYS` is a change, with commas between its keys;
@@ -17,10 +18,12 @@ What is expected was worked out by hand from RFC 7348, RFC 8926, IEEE 802.1Q and
 """
 import sys
 
+import flood_rows
 import runs
 
 SETTINGS = {"A": runs.ENDPOINT, "A2": runs.TWO_TUNNELS, "B": runs.PEER, "L": runs.BRIDGE, "T": runs.FORGETFUL}
 SETTINGS |= {f"ports{ports}": runs.wide(ports) for ports in (16, 17, 255)}
+SETTINGS |= {f"flood{most}": runs.flooding(most) for most in (1, 15, 16, 17, 40, 512)}
 
 
 class Row:
@@ -111,6 +114,15 @@ def rows():
         yield row
 
 
+def long_floods():
+    """The rows of long flood lists."""
+    for name, lines in flood_rows.rows():
+        row = Row(f"flood_rows.py: {name}")
+        for line in lines:
+            row.put(line)
+        yield row
+
+
 def beyond_256():
     """254 segments of 1 entry come to two of 256 that stand, in a pool of 766. The next ones ask for 2, which the pool hasn't
     either: that they would be too many is told first."""
@@ -138,13 +150,13 @@ def beyond_4000():
 
 def main():
     count = wrong = 0
-    for row in [*rows(), beyond_256(), beyond_4000()]:
+    for row in [*rows(), *long_floods(), beyond_256(), beyond_4000()]:
         count += 1
         for fault in row.faults():
             print(f"tests/rows.py: {row.name}: {fault}")
             wrong += 1
     # Each row that there is has run: an empty folder would pass.
-    if count < 219:
+    if count < 262:
         print(f"tests/rows.py: {count} rows")
         wrong += 1
     return 1 if wrong else 0

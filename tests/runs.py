@@ -70,6 +70,36 @@ vni = 5000
 """
 
 
+def flooding(most):
+    """An endpoint whose segments may flood to so many remotes each, and have none yet: 10 over VXLAN, and 20 over Geneve and
+    VXLAN, each in a horizon group of its own."""
+    return f"""version = 3
+{underlay(1)}[limits]
+flood = {most}
+{PORTS}[[segment]]
+vid = 10
+untagged = [1, 2]
+tagged = [3]
+[[segment.tunnel]]
+kind = "vxlan"
+vni = 5000
+flood = []
+[[segment]]
+vid = 20
+tagged = [2, 3]
+[[segment.tunnel]]
+kind = "geneve"
+vni = 6000
+group = 1
+flood = []
+[[segment.tunnel]]
+kind = "vxlan"
+vni = 7000
+group = 2
+flood = []
+"""
+
+
 # The endpoint in version 2, where VID 10 has a Geneve tunnel beside its VXLAN tunnel, each with a remote and a horizon group
 # of its own.
 TWO_TUNNELS = f"""version = 2

@@ -114,10 +114,33 @@ def third_version():
     text = text.replace(rows.PORT * 2, rows.PORT, 1)
     expect_settings(text.replace("# segment", "untagged = [254]"), "ok")
     expect_settings(text.replace("# segment", "untagged = [255]"), "BadValue segment.1.untagged")
+    flood_lists()
     # The last of 4,094 segments has the longest paths.
     text = head.replace("version = 3\n", "version = 3\n[limits]\nsegments = 4094\n")
     text += "".join(small.replace("#", str(k)).replace("@", "1") for k in range(1, 4095))
     expect_settings(text + "group = 256\n", "BadValue segment.4094.tunnel.2.group")
+
+
+def flood(count, last=""):
+    """The key of a flood list of so many remotes, from 198.18.0.0 on, and of one item more where it is told."""
+    items = [f'"198.18.{n >> 8}.{n & 255}"' for n in range(count)]
+    return f"flood = [{', '.join(items + [last] if last else items)}]"
+
+
+def flood_lists():
+    """Flood lists in settings of version 3."""
+    second = '[[segment.tunnel]]\nkind = "geneve"\nvni = 9000\n'
+    for lines, first, other, wanted in rows.FLOODS_3:
+        text = rows.FEWEST_3.replace("version = 3\n", "version = 3\n" + lines).replace("# first", flood(first))
+        expect_settings(text if other is None else text.replace("# second", second + flood(other)), wanted)
+    most = rows.FEWEST_3.replace("version = 3\n", "version = 3\n[limits]\nflood = 512\n")
+    for first, last, other, other_last, wanted in rows.LAST_3:
+        text = most.replace("# first", flood(first, last))
+        expect_settings(text.replace("# second", second + flood(other, other_last)), wanted)
+    head = most.split("[[segment]]")[0]
+    for counts, wanted in rows.SEVERAL_3:
+        tables = [rows.SMALL.replace("#", str(k)) + flood(count) + "\n" for k, count in enumerate(counts, 1)]
+        expect_settings(head + "".join(tables), wanted)
 
 
 def changes(settings):

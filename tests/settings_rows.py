@@ -395,6 +395,15 @@ PARTS_3 = [
     ("version = 3", "version = 3\n[limits]\nports = -1", "BadValue limits.ports"),
     ("version = 3", "version = 3\n[limits]\nports = 16.0", "BadValue limits.ports"),
     ("version = 3", 'version = 3\n[limits]\nports = "16"', "BadValue limits.ports"),
+    ("version = 3", "version = 3\n[limits]\nflood = 1", "ok"),
+    ("version = 3", "version = 3\nlimits = { flood = 512 }", "ok"),
+    ("version = 3", "version = 3\n[limits]\nflood = 0", "BadValue limits.flood"),
+    ("version = 3", "version = 3\n[limits]\nflood = 513", "BadValue limits.flood"),
+    ("version = 3", "version = 3\n[limits]\nflood = -1", "BadValue limits.flood"),
+    ("version = 3", "version = 3\n[limits]\nflood = 16.0", "BadValue limits.flood"),
+    ("version = 3", 'version = 3\n[limits]\nflood = "16"', "BadValue limits.flood"),
+    ("version = 3", 'version = 3\n[limits]\nflood = ["192.0.2.2"]', "BadValue limits.flood"),
+    ("version = 3", "version = 3\n[limits]\nfloods = 16", "BadValue limits.*"),
     ("version = 3", "version = 3\n[limits]\nhops = 1", "ok"),
     ("version = 3", "version = 3\n[limits]\nhops = 4096", "ok"),
     ("version = 3", "version = 3\n[limits]\nhops = 0", "BadValue limits.hops"),
@@ -409,11 +418,38 @@ PARTS_3 = [
     ("version = 3", "version = 3\n[limits]\naddresses = 0", "BadValue limits.addresses"),
     ("version = 3", "version = 3\n[limits]\naddresses = 1048577", "BadValue limits.addresses"),
     ("version = 3", "version = 3\n[limits]\naddresses = [1]", "BadValue limits.addresses"),
-    # In this order: ports, segments, hops, entries, addresses.
+    # In this order: ports, segments, flood, hops, entries, addresses.
     ("version = 3", "version = 3\n[limits]\naddresses = 0\nentries = 0", "BadValue limits.entries"),
     ("version = 3", "version = 3\n[limits]\nentries = 0\nhops = 0", "BadValue limits.hops"),
-    ("version = 3", "version = 3\n[limits]\nhops = 0\nsegments = 0", "BadValue limits.segments"),
+    ("version = 3", "version = 3\n[limits]\nhops = 0\nflood = 0", "BadValue limits.flood"),
+    ("version = 3", "version = 3\n[limits]\nflood = 0\nsegments = 0", "BadValue limits.segments"),
     ("version = 3", "version = 3\n[limits]\nsegments = 0\nports = 0", "BadValue limits.ports"),
+    # Segments times remotes are at most 1,048,576.
+    ("version = 3", "version = 3\n[limits]\nsegments = 2048\nflood = 512", "ok"),
+    ("version = 3", "version = 3\n[limits]\nsegments = 2049\nflood = 512", "OverLimit limits.flood"),
+    ("version = 3", "version = 3\n[limits]\nsegments = 4094\nflood = 256", "ok"),
+    ("version = 3", "version = 3\n[limits]\nsegments = 4094\nflood = 257", "OverLimit limits.flood"),
+    ("version = 3", "version = 3\n[limits]\nflood = 257\nsegments = 4094", "OverLimit limits.flood"),
+    ("version = 3", "version = 3\n[limits]\nsegments = 4080\nflood = 257", "ok"),
+    ("version = 3", "version = 3\n[limits]\nsegments = 4081\nflood = 257", "OverLimit limits.flood"),
+    ("version = 3", "version = 3\n[limits]\nsegments = 4094\nflood = 512", "OverLimit limits.flood"),
+    ("version = 3", "version = 3\nlimits = { flood = 512, segments = 4094 }", "OverLimit limits.flood"),
+    # That is asked behind all keys of the table, and before what stands behind it. Where it is refused, a pool may have the most.
+    ("version = 3", "version = 3\n[limits]\nsegments = 4094\nflood = 512\nfloods = 1", "BadValue limits.*"),
+    ("version = 3", "version = 3\n[limits]\nsegments = 4095\nflood = 512", "BadValue limits.segments"),
+    ("version = 3", "version = 3\n[limits]\nsegments = 4094\nflood = 513", "BadValue limits.flood"),
+    ("version = 3", "version = 3\n[limits]\nsegments = 4094\nflood = 512\nhops = 0", "BadValue limits.hops"),
+    ("version = 3", "version = 3\n[limits]\nsegments = 4094\nflood = 512\nentries = 0", "BadValue limits.entries"),
+    ("version = 3", "version = 3\n[limits]\nsegments = 4094\nflood = 512\naddresses = 0", "BadValue limits.addresses"),
+    ("version = 3", "version = 3\npool = 0\n[limits]\nsegments = 4094\nflood = 512", "BadValue pool"),
+    ("version = 3", "version = 3\npool = 65537\n[limits]\nsegments = 4094\nflood = 256", "BadValue pool"),
+    ("version = 3", "version = 3\npool = 65537\n[limits]\nsegments = 4094\nflood = 257", "OverLimit limits.flood"),
+    ("version = 3", "version = 3\npool = 1048577\n[limits]\nsegments = 4094\nflood = 512", "BadValue pool"),
+    (
+        'version = 3\n[underlay]\nmac = "02',
+        'version = 3\n[limits]\nsegments = 4094\nflood = 512\n[underlay]\nmac = "03',
+        "OverLimit limits.flood",
+    ),
     # A limit, within the most entries of a segment; where none is given it is 256, or the most.
     ("# segment", "limit = 8192", "ok"),
     ("# segment", "limit = 8193", "BadValue segment.1.limit"),
@@ -442,6 +478,8 @@ PARTS_3 = [
     ("version = 3", "version = 1\nlimits = { segments = 256 }", "BadValue *"),
     ("version = 3", "version = 2\n[limits]\nports = 16", "BadValue *"),
     ("version = 3", "version = 1\nlimits = { hops = 64 }", "BadValue *"),
+    ("version = 3", "version = 2\n[limits]\nflood = 16", "BadValue *"),
+    ("version = 3", "version = 1\nlimits = { flood = 16 }", "BadValue *"),
     ("version = 3", "version = 4\n[limits]", "BadValue *"),
     ("version = 3", "version = 3.0\n[limits]", "BadValue *"),
     ("version = 3", 'version = "3"\n[limits]', "BadValue *"),
@@ -572,6 +610,78 @@ SECOND = [
     (16, 'kind = "geneve"\nvni = 9000\nflood = ["198.51.100.1"]', "OverLimit segment.1.tunnel.2.flood"),
     (16, 'kind = "geneve"\nvni = 9000\nflood = []', "ok"),
     (17, 'kind = "geneve"\nvni = 9000\nflood = [0]', "OverLimit segment.1.tunnel.1.flood"),
+]
+
+# Lines behind the version 3; how many remotes the first tunnel floods to, and the second, where there is one; and the fault.
+FLOODS_3 = [
+    ("", 16, None, "ok"),
+    ("", 17, None, "OverLimit segment.1.tunnel.1.flood"),
+    ("[limits]\n", 17, None, "OverLimit segment.1.tunnel.1.flood"),
+    ("[limits]\nports = 255\nsegments = 4094\nhops = 4096\n", 17, None, "OverLimit segment.1.tunnel.1.flood"),
+    ("", 15, 1, "ok"),
+    ("", 16, 0, "ok"),
+    ("", 16, 1, "OverLimit segment.1.tunnel.2.flood"),
+    ("[limits]\nflood = 17\n", 17, None, "ok"),
+    ("[limits]\nflood = 17\n", 18, None, "OverLimit segment.1.tunnel.1.flood"),
+    ("[limits]\nflood = 17\n", 16, 1, "ok"),
+    ("[limits]\nflood = 17\n", 16, 2, "OverLimit segment.1.tunnel.2.flood"),
+    ("[limits]\nflood = 17\n", 17, 0, "ok"),
+    ("[limits]\nflood = 17\n", 17, 1, "OverLimit segment.1.tunnel.2.flood"),
+    ("[limits]\nflood = 17\n", 0, 17, "ok"),
+    ("[limits]\nflood = 17\n", 0, 18, "OverLimit segment.1.tunnel.2.flood"),
+    ("[limits]\nflood = 17\n", 18, 18, "OverLimit segment.1.tunnel.1.flood"),
+    # Fewer than there may be without it.
+    ("[limits]\nflood = 15\n", 15, None, "ok"),
+    ("[limits]\nflood = 15\n", 16, None, "OverLimit segment.1.tunnel.1.flood"),
+    ("[limits]\nflood = 15\n", 14, 2, "OverLimit segment.1.tunnel.2.flood"),
+    ("[limits]\nflood = 1\n", 1, None, "ok"),
+    ("[limits]\nflood = 1\n", 2, None, "OverLimit segment.1.tunnel.1.flood"),
+    ("[limits]\nflood = 1\n", 0, 1, "ok"),
+    ("[limits]\nflood = 1\n", 1, 1, "OverLimit segment.1.tunnel.2.flood"),
+    ("[limits]\nflood = 40\n", 40, None, "ok"),
+    ("[limits]\nflood = 40\n", 41, None, "OverLimit segment.1.tunnel.1.flood"),
+    ("[limits]\nflood = 40\n", 1, 39, "ok"),
+    ("[limits]\nflood = 40\n", 1, 40, "OverLimit segment.1.tunnel.2.flood"),
+    ("[limits]\nsegments = 4094\nflood = 256\n", 256, None, "ok"),
+    ("[limits]\nsegments = 4094\nflood = 256\n", 257, None, "OverLimit segment.1.tunnel.1.flood"),
+    ("[limits]\nflood = 512\n", 512, None, "ok"),
+    ("[limits]\nflood = 512\n", 513, None, "OverLimit segment.1.tunnel.1.flood"),
+    ("[limits]\nflood = 512\n", 256, 256, "ok"),
+    ("[limits]\nflood = 512\n", 256, 257, "OverLimit segment.1.tunnel.2.flood"),
+    ("[limits]\nflood = 512\n", 512, 0, "ok"),
+    ("[limits]\nflood = 512\n", 512, 1, "OverLimit segment.1.tunnel.2.flood"),
+    ("[limits]\nflood = 512\n", 0, 512, "ok"),
+    ("[limits]\nflood = 512\n", 0, 513, "OverLimit segment.1.tunnel.2.flood"),
+    ("[limits]\nsegments = 2048\nflood = 512\n", 511, 1, "ok"),
+]
+
+# Where there may be 512: how many remotes stand in the first list, from 198.18.0.0 on, and the item behind them; the same of the
+# second list; and the fault.
+LAST_3 = [
+    (16, '"198.18.0.1"', 0, "", "BadValue segment.1.tunnel.1.flood"),
+    (16, '"192.0.2.1"', 0, "", "BadValue segment.1.tunnel.1.flood"),
+    (511, '"239.1.1.1"', 0, "", "ok"),
+    (511, '"198.18.0.1"', 0, "", "BadValue segment.1.tunnel.1.flood"),
+    (511, '"198.18.1.254"', 0, "", "BadValue segment.1.tunnel.1.flood"),
+    (511, '"192.0.2.1"', 0, "", "BadValue segment.1.tunnel.1.flood"),
+    (511, '"2001:db8::2"', 0, "", "BadValue segment.1.tunnel.1.flood"),
+    (511, '"255.255.255.255"', 0, "", "BadValue segment.1.tunnel.1.flood"),
+    (511, "0", 0, "", "BadValue segment.1.tunnel.1.flood"),
+    # An address that is the other tunnel's, too, is none twice.
+    (255, '"239.1.1.1"', 255, '"239.1.1.1"', "ok"),
+    (255, '"239.1.1.1"', 255, '"198.18.0.1"', "BadValue segment.1.tunnel.2.flood"),
+    (255, '"239.1.1.1"', 255, "0", "BadValue segment.1.tunnel.2.flood"),
+    # Items of a list that is too long aren't looked at.
+    (512, "0", 0, "", "OverLimit segment.1.tunnel.1.flood"),
+    (255, '"239.1.1.1"', 256, "0", "OverLimit segment.1.tunnel.2.flood"),
+]
+
+# How many remotes each segment floods to, where there may be 512, and the fault: each has as many to itself.
+SEVERAL_3 = [
+    ((512, 512, 512), "ok"),
+    ((512, 512, 513), "OverLimit segment.3.tunnel.1.flood"),
+    ((0, 513, 0), "OverLimit segment.2.tunnel.1.flood"),
+    ((512, 17, 16, 0, 512), "ok"),
 ]
 
 # A segment of the number `#` with two tunnels.
@@ -985,6 +1095,9 @@ SMALL = '[[segment]]\nvid = #\n[[segment.tunnel]]\nkind = "vxlan"\nvni = #\n'
 TWO_OF_256 = "".join(SMALL.replace("#", str(k)) for k in (1, 2))
 NINE_OF_8192 = "".join(SMALL.replace("vid = #", "vid = #\nlimit = 8192").replace("#", str(k)) for k in range(1, 10))
 
+# A flood list of 17 items, none of them an address.
+NO_ADDRESS_17 = f"flood = {[0] * 17}"
+
 # Settings in a file S that are refused, and all that is told of each.
 TOLD_SETTINGS = [
     # A key misspelled.
@@ -1020,15 +1133,27 @@ TOLD_SETTINGS = [
     ),
     (
         "version = 3\n[limits]\nsegment = 300\n",
-        "S:3:1: BadValue limits.*\n  found: segment\n  did you mean: segments\n  keys: ports segments hops entries addresses\n",
+        "S:3:1: BadValue limits.*\n  found: segment\n  did you mean: segments\n  keys: ports segments flood hops entries addresses\n",
     ),
     (
         "version = 3\n[limits]\nport = 17\n",
-        "S:3:1: BadValue limits.*\n  found: port\n  did you mean: ports\n  keys: ports segments hops entries addresses\n",
+        "S:3:1: BadValue limits.*\n  found: port\n  did you mean: ports\n  keys: ports segments flood hops entries addresses\n",
     ),
     (
         "version = 3\n[limits]\nports = 256\n",
         "S:3:1: BadValue limits.ports\n  found: 256\n  allowed: a number, 1 to 255\n",
+    ),
+    (
+        "version = 3\n[limits]\nfloods = 17\n",
+        "S:3:1: BadValue limits.*\n  found: floods\n  did you mean: flood\n  keys: ports segments flood hops entries addresses\n",
+    ),
+    (
+        "version = 3\n[limits]\nflood = 513\n",
+        "S:3:1: BadValue limits.flood\n  found: 513\n  allowed: a number, 1 to 512\n",
+    ),
+    (
+        "version = 3\n[limits]\nflood = 257 # each\nsegments = 4094\n",
+        "S:3:1: OverLimit limits.flood\n  found: 257 # each\n  allowed: limits.segments times limits.flood is 1048576 at most\n",
     ),
     (
         "version = 3\n[limits]\nhops = 4097\n",
@@ -1089,6 +1214,43 @@ TOLD_SETTINGS = [
         FEWEST_2.split("[[port]]")[0] + "[[underlay.hop]]\n" * 65,
         "S:6:1: OverLimit underlay.hop\n  found: [[underlay.hop]]\n"
         "  allowed: at most 64 tables with addr and mac, each headed [[underlay.hop]]; version 3 with limits.hops raises it\n",
+    ),
+    # A remote more than a segment's flood list may have.
+    (
+        FEWEST.replace("# segment", NO_ADDRESS_17),
+        "S:14:1: OverLimit segment.1.flood\n  found: [0, 0, 0, 0, 0, 0, 0, 0, 0, 0, 0, 0, 0, 0, 0, 0, 0]\n"
+        "  allowed: a list of at most 16 addresses in quotes, groups too, none twice, none 0.0.0.0, 255.255.255.255, ::, an own"
+        " address, or of a family without an own address; version 3 with limits.flood raises it\n",
+    ),
+    (
+        FEWEST_2.replace("# first", NO_ADDRESS_17),
+        "S:13:1: OverLimit segment.1.tunnel.1.flood\n  found: [0, 0, 0, 0, 0, 0, 0, 0, 0, 0, 0, 0, 0, 0, 0, 0, 0]\n"
+        "  allowed: a list of addresses in quotes, groups too, at most 16 over both tables, none twice, none 0.0.0.0,"
+        " 255.255.255.255, ::, an own address, or of a family without an own address; version 3 with limits.flood raises it\n",
+    ),
+    (
+        FEWEST_2.replace("version = 2", "version = 3").replace("# first", NO_ADDRESS_17),
+        "S:13:1: OverLimit segment.1.tunnel.1.flood\n  found: [0, 0, 0, 0, 0, 0, 0, 0, 0, 0, 0, 0, 0, 0, 0, 0, 0]\n"
+        "  allowed: a list of addresses in quotes, groups too, at most 16 over both tables, or as many as limits.flood says"
+        " where it is given, none twice, none 0.0.0.0, 255.255.255.255, ::, an own address, or of a family without an own"
+        " address; limits.flood raises it, up to 512\n",
+    ),
+    (
+        FEWEST_2.replace("version = 2", "version = 3\n[limits]\nflood = 2")
+        .replace("# first", 'flood = ["192.0.2.2"]')
+        .replace("# second", '[[segment.tunnel]]\nkind = "geneve"\nvni = 6000\nflood = ["192.0.2.2", "192.0.2.3"]'),
+        'S:20:1: OverLimit segment.1.tunnel.2.flood\n  found: ["192.0.2.2", "192.0.2.3"]\n'
+        "  allowed: a list of addresses in quotes, groups too, at most 16 over both tables, or as many as limits.flood says"
+        " where it is given, none twice, none 0.0.0.0, 255.255.255.255, ::, an own address, or of a family without an own"
+        " address; limits.flood raises it, up to 512\n",
+    ),
+    # An address that may not stand there, in version 3.
+    (
+        FEWEST_2.replace("version = 2", "version = 3").replace("# first", 'flood = ["192.0.2.1"]'),
+        'S:13:1: BadValue segment.1.tunnel.1.flood\n  found: ["192.0.2.1"]\n'
+        "  allowed: a list of addresses in quotes, groups too, at most 16 over both tables, or as many as limits.flood says"
+        " where it is given, none twice, none 0.0.0.0, 255.255.255.255, ::, an own address, or of a family without an own"
+        " address\n",
     ),
     # A segment more than there may be.
     (

@@ -1,7 +1,8 @@
 #!/usr/bin/env python3
 """Writes settings, changes and captures with as much of everything as there may be, and what a run on them decides.
 
-    make.py FOLDER    settings.toml, changes.toml, port1.pcap to port16.pcap, underlay.pcap and decisions.txt
+    make.py FOLDER    settings.toml, changes.toml, port1.pcap to port16.pcap, underlay.pcap, decisions.txt, and check.txt, what a
+                      look prints
     make.py read FOLDER OUT    counts the records of the captures in OUT, which a run on FOLDER wrote
 
 16 ports; 256 segments, each with all ports, 16 remotes and 256 addresses; 16 known options; 64 exceptions from the next
@@ -116,6 +117,7 @@ def write(folder):
         decisions.append(f"{n} {n} {source} {len(captures[port])} {segment} {result}\n")
     folder.joinpath("changes.toml").write_text("".join(changes))
     folder.joinpath("decisions.txt").write_text("".join(decisions))
+    folder.joinpath("check.txt").write_text(f"ok: {PORTS} ports, {SEGMENTS} segments, {CHANGES} changes\n")
     for port, records in enumerate(captures):
         name = f"port{port}.pcap" if port else "underlay.pcap"
         folder.joinpath(name).write_bytes(header + b"".join(records))

@@ -2,11 +2,12 @@
 """Writes settings of version 3 and captures with as many ports, segments, next hops and addresses as there may be, and what a
 run on them decides.
 
-    most.py FOLDER    settings.toml, port1.pcap to port255.pcap, underlay.pcap and decisions.txt
+    most.py FOLDER    settings.toml, port1.pcap to port255.pcap, underlay.pcap, decisions.txt, and check.txt, what a look prints
     most.py read FOLDER OUT    looks at the captures in OUT, which a run on FOLDER wrote
 
-255 ports; 4,094 segments, five of them with all ports, the others with two, and 16 remotes each; 4,096 exceptions from the next
-hop; a pool of 1,048,576 addresses that fills up, 131,072 of them in one segment. Nothing but Python's own library is needed.
+255 ports; 4,094 segments, five of them with all ports, the others with two; 256 remotes in each eighth segment and in those of all
+ports, which is as many as so many segments may have, and 16 in the others; 4,096 exceptions from the next hop; a pool of 1,048,576
+addresses that fills up, 131,072 of them in one segment. Nothing but Python's own library is needed.
 """
 import itertools
 import pathlib
@@ -14,7 +15,7 @@ import re
 import struct
 import sys
 
-PORTS, SEGMENTS, HOPS, FLOOD, ENTRIES, ADDRESSES = 255, 4_094, 4_096, 16, 131_072, 1_048_576
+PORTS, SEGMENTS, HOPS, FLOOD, ENTRIES, ADDRESSES = 255, 4_094, 4_096, 256, 131_072, 1_048_576
 # The last segment has as many addresses as one may have, and the first what the others leave over.
 EACH = (ADDRESSES - ENTRIES) // (SEGMENTS - 1)
 LIMITS = [ADDRESSES - ENTRIES - EACH * (SEGMENTS - 2), *[EACH] * (SEGMENTS - 2), ENTRIES]
@@ -37,7 +38,7 @@ def hop(n):
 
 def remotes(k):
     """The flood list of the k-th segment: each exception is on some."""
-    return [hop((k * FLOOD + n) % HOPS)[0] for n in range(FLOOD)]
+    return [hop((k * 16 + n) % HOPS)[0] for n in range(FLOOD if k % 8 == 0 or k in WIDE else 16)]
 
 
 def members(k):
@@ -56,7 +57,7 @@ def port_of(k, n):
 
 def settings():
     """The text of the settings."""
-    yield f"version = 3\n[limits]\nports = {PORTS}\nsegments = {SEGMENTS}\nhops = {HOPS}\n"
+    yield f"version = 3\n[limits]\nports = {PORTS}\nsegments = {SEGMENTS}\nflood = {FLOOD}\nhops = {HOPS}\n"
     yield f"entries = {ENTRIES}\naddresses = {ADDRESSES}\n"
     yield '[underlay]\nmac = "02:00:00:00:aa:01"\nnext_hop = "02:00:00:00:aa:fe"\nip4 = "192.0.2.1"\n'
     for n in range(HOPS):
@@ -69,7 +70,7 @@ def settings():
         untagged = [port for port, is_tagged in members(k) if not is_tagged]
         tagged = [port for port, is_tagged in members(k) if is_tagged]
         yield f"[[segment]]\nvid = {k}\nlimit = {limit}\nuntagged = {untagged}\ntagged = {tagged}\n"
-        yield f'[[segment.tunnel]]\nkind = "{"vxlan" if k % 2 else "geneve"}"\nvni = {vni(k)}\nflood = [{flood}]\n'
+        yield f'[[segment.tunnel]]\nkind = "{kind(k)}"\nvni = {vni(k)}\nflood = [{flood}]\n'
 
 
 def station(k, n):
@@ -82,17 +83,23 @@ def frame(k, dst, src):
     return dst + src + struct.pack(">HH", 0x8100, k) + b"\x08\x06" + bytes(46)
 
 
-def packet(k, remote):
+def kind(k):
+    """Of the tunnel of the k-th segment."""
+    return "vxlan" if k % 2 else "geneve"
+
+
+def packet(tunnel, network, remote, src):
     """A frame for everybody from a remote, in a tunnel: Ethernet, IPv4 (RFC 791), UDP and the header of VXLAN or Geneve."""
-    if k % 2:
-        port, header = 4789, struct.pack(">II", 0x08000000, vni(k) << 8)
+    if tunnel == "vxlan":
+        port, header = 4789, struct.pack(">II", 0x08000000, network << 8)
     else:
-        port, header = 6081, struct.pack(">BBHI", 0, 0, 0x6558, vni(k) << 8)
-    text = header + EVERYBODY + station(k, LIMITS[k - 1] + 1) + b"\x08\x06" + bytes(46)
+        port, header = 6081, struct.pack(">BBHI", 0, 0, 0x6558, network << 8)
+    text = header + EVERYBODY + src + b"\x08\x06" + bytes(46)
     source = bytes(map(int, remote.split(".")))
     head = struct.pack(">BBHIBBH", 0x45, 0, 28 + len(text), 0x4000, 64, 17, 0) + source + b"\xc0\0\2\1"
     total = sum(struct.unpack(">10H", head))
-    total = (total & 0xFFFF) + (total >> 16)
+    while total >> 16:
+        total = (total & 0xFFFF) + (total >> 16)
     head = head[:10] + struct.pack(">H", 0xFFFF - total) + head[12:]
     udp = struct.pack(">HHHH", 51719, port, 8 + len(text), 0)
     return bytes.fromhex("02000000aa0102000000aafe0800") + head + udp + text
@@ -131,18 +138,28 @@ def passing():
         here = port_of(k, last)
         yield here, frame(k, station(k, last + 1), station(k, last)), k, everywhere(k, here)
     for k in every:
-        yield 0, packet(k, remotes(k)[-1]), k, at_ports(k, None)
+        yield 0, packet(kind(k), vni(k), remotes(k)[-1], station(k, LIMITS[k - 1] + 1)), k, at_ports(k, None)
 
 
-def write(folder):
-    """Writes all files."""
-    folder.joinpath("settings.toml").write_text("".join(settings()))
+def write(folder, texts, segments, events):
+    """Writes all files: the settings, and what comes in. A change is told in place of a port and of octets."""
+    folder.joinpath("settings.toml").write_text("".join(texts))
     records, captures, decisions = [0] * (PORTS + 1), [[] for _ in range(PORTS + 1)], []
-    for n, (port, octets, segment, result) in enumerate(passing(), 1):
+    changes, refused = [], []
+    for n, (port, octets, segment, result) in enumerate(events, 1):
+        if port is None:
+            changes.append(f"[[change]]\nat = {n}\n{octets}\n")
+            decisions.append(f"{n} {n} c {len(changes)} {segment} {result}\n")
+            if result != "done":
+                refused.append(f"change {len(changes)} at {n}: {result}\n")
+            continue
         records[port] += 1
         captures[port].append(struct.pack("<IIII", 0, n, len(octets), len(octets)) + octets)
         decisions.append(f"{n} {n} {f'p{port}' if port else 'u'} {records[port]} {segment} {result}\n")
     folder.joinpath("decisions.txt").write_text("".join(decisions))
+    if changes:
+        folder.joinpath("changes.toml").write_text("version = 2\n" + "".join(changes))
+    folder.joinpath("check.txt").write_text(f"ok: {PORTS} ports, {segments} segments, {len(changes)} changes\n" + "".join(refused))
     header = struct.pack("<IHHiIII", 0xA1B23C4D, 2, 4, 0, 0, 65_535, 1)
     for port, texts in enumerate(captures):
         name = f"port{port}.pcap" if port else "underlay.pcap"
@@ -177,9 +194,14 @@ def read(folder, out):
     assert packets == decisions.count("=110"), "the underlay has another number of packets"
 
 
-if len(sys.argv) == 2 and not sys.argv[1].startswith("-"):
-    write(pathlib.Path(sys.argv[1]))
-elif len(sys.argv) == 4 and sys.argv[1] == "read":
-    read(pathlib.Path(sys.argv[2]), pathlib.Path(sys.argv[3]))
-else:
-    sys.exit(__doc__)
+def main():
+    if len(sys.argv) == 2 and not sys.argv[1].startswith("-"):
+        write(pathlib.Path(sys.argv[1]), settings(), SEGMENTS, passing())
+    elif len(sys.argv) == 4 and sys.argv[1] == "read":
+        read(pathlib.Path(sys.argv[2]), pathlib.Path(sys.argv[3]))
+    else:
+        sys.exit(__doc__)
+
+
+if __name__ == "__main__":
+    main()

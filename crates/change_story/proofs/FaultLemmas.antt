@@ -1,6 +1,6 @@
 -- Why the first check that refuses a change does is why the change is refused.
 use Rattle.std.proofs.Common.{◌≡◌, refl, ℕ, Bool, true, false, not, ◌&&◌, ◌||◌, ◌+◌, List, [], ◌∷◌, ◌++◌, length, Option, Some, None}
-use Rattle.std.specs.Prelude.{is_some, nat_lt, nat_le, if◌then◌else◌}
+use Rattle.std.specs.Prelude.{is_some, min, nat_lt, nat_le, if◌then◌else◌}
 use Rattle.std.specs.Option.{option_and_then, option_map, option_map_or}
 use Rattle.std.proofs.lemmas.Bool.{false≢true}
 use Rattle.frame_view.specs.Address.{is_group as is_group_mac}
@@ -70,10 +70,10 @@ flooding false false false true e = refl
 flooding false false false false true = refl
 flooding false false false false false = refl
 
-adding : (addrs : OwnAddrs) (list : Entries) (addr : Addr) (tunnel k : Option Tunnel)
-    → refusal (tunnel_check tunnel k ∷ option_map_or (flood_checks addrs list addr) k []) ≡ or_table (change.at_tunnel k (λ kind. option_map of_flood (first (add_faults addrs list kind addr)))) None
-adding addrs list addr tunnel None = refl
-adding addrs list addr tunnel (Some kind) = flooding (not (is_usable addr)) (not (has_family addrs addr)) (is_own addrs addr) (holds list kind addr) (nat_le 16 (length list))
+adding : (addrs : OwnAddrs) (most : ℕ) (list : Entries) (addr : Addr) (tunnel k : Option Tunnel)
+    → refusal (tunnel_check tunnel k ∷ option_map_or (flood_checks addrs most list addr) k []) ≡ or_table (change.at_tunnel k (λ kind. option_map of_flood (first (add_faults addrs most list kind addr)))) None
+adding addrs most list addr tunnel None = refl
+adding addrs most list addr tunnel (Some kind) = flooding (not (is_usable addr)) (not (has_family addrs addr)) (is_own addrs addr) (holds list kind addr) (nat_le (min most 512) (length list))
 
 leaving : (list : Entries) (addr : Addr) (tunnel k : Option Tunnel)
     → refusal (tunnel_check tunnel k ∷ option_map_or (leaving_checks list addr) k []) ≡ or_table (change.at_tunnel k (λ kind. first ((NotThere, not (holds list kind addr)) ∷ []))) None
@@ -128,7 +128,7 @@ coming None true true true true false true is = refl
 coming None true true true true false false is = refl
 
 pub fault-first : (B : State) (c : Change) → AreVnis c → refusal (checks B c) ≡ fault B c
-fault-first B (AddFlood vid addr tunnel) h = segment (segment_at B.settings vid) vid _ _ _ (λ s. adding (own B.settings.overlay.underlay) s.flood addr tunnel (kind_named s.tunnels tunnel))
+fault-first B (AddFlood vid addr tunnel) h = segment (segment_at B.settings vid) vid _ _ _ (λ s. adding (own B.settings.overlay.underlay) B.settings.overlay.underlay.limits.flood s.flood addr tunnel (kind_named s.tunnels tunnel))
 fault-first B (RemoveFlood vid addr tunnel) h = segment (segment_at B.settings vid) vid _ _ _ (λ s. leaving s.flood addr tunnel (kind_named s.tunnels tunnel))
 fault-first B (Fix vid mac target) h = segment (segment_at B.settings vid) vid _ _ _ (λ s. fixing B.settings mac target (B.tables vid) s)
 fault-first B (Unfix vid mac) h = segment (segment_at B.settings vid) vid _ _ _ (λ s. refl)

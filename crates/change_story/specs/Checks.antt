@@ -1,6 +1,6 @@
 -- The checks of a change, in their order, each with what it saw; and what the change finds where none refuses it.
 -- It states no standard.
-use Rattle.std.specs.Prelude.{◌≡◌, ℕ, ◌+◌, ◌-◌, Bool, true, not, nat_lt, nat_le, is_some, is_none}
+use Rattle.std.specs.Prelude.{◌≡◌, ℕ, ◌+◌, ◌-◌, Bool, true, not, nat_lt, nat_le, is_some, is_none, min}
 use Rattle.std.specs.Prelude.{if◌then◌else◌, List, [], ◌∷◌, ◌++◌, length, map, Option, Some, None}
 use Rattle.std.specs.Option.{option_map, option_map_or, option_to_list}
 use Rattle.std.specs.FinMap.{get, len}
@@ -75,9 +75,10 @@ absent_check listed = record { fault = AlreadyThere; fails = listed; saw = seen.
 abbrev pub listed_check : Bool → Check
 listed_check listed = record { fault = NotThere; fails = not listed; saw = seen.Listed listed }
 
--- the flood list has room
-abbrev pub flood_check : ℕ → Check
-flood_check remotes = record { fault = FloodFull; fails = nat_le 16 remotes; saw = seen.FloodRoom remotes }
+-- the flood list has room: it has fewer remotes than its limit says, and than 512
+abbrev pub flood_check : ℕ → ℕ → Check
+flood_check most remotes =
+    record { fault = FloodFull; fails = nat_le (min most 512) remotes; saw = seen.FloodRoom remotes (min most 512) }
 
 -- a MAC address is no group's
 abbrev pub mac_check : List ℕ → Check
@@ -129,11 +130,11 @@ in_segment S vid next = segment_check vid (is_some (segment_in S vid)) ∷ optio
 abbrev pub at_tunnel : List SegmentTunnel → Option Tunnel → (Tunnel → List Check) → List Check
 at_tunnel tunnels named next = tunnel_check named (kind_named tunnels named) ∷ option_map_or next (kind_named tunnels named) []
 
--- of a remote endpoint that is to come onto a flood list
-abbrev pub flood_checks : Own → Entries → Addr → Tunnel → List Check
-flood_checks own flood addr kind =
+-- of a remote endpoint that is to come onto a flood list of at most so many
+abbrev pub flood_checks : Own → ℕ → Entries → Addr → Tunnel → List Check
+flood_checks own most flood addr kind =
     usable_check addr ∷ family_check own addr ∷ own_check own addr
-    ∷ absent_check (holds flood kind addr) ∷ flood_check (length flood) ∷ []
+    ∷ absent_check (holds flood kind addr) ∷ flood_check most (length flood) ∷ []
 
 -- of one that is to leave it
 abbrev pub leaving_checks : Entries → Addr → Tunnel → List Check
@@ -173,7 +174,8 @@ limit_checks S limit g =
 -- all, in their order
 abbrev pub checks : State → Change → List Check
 checks B (AddFlood vid addr tunnel) =
-    in_segment B.settings vid (λ g. at_tunnel g.tunnels tunnel (flood_checks (own B.settings.overlay.underlay) g.flood addr))
+    let U = B.settings.overlay.underlay in
+    in_segment B.settings vid (λ g. at_tunnel g.tunnels tunnel (flood_checks (own U) U.limits.flood g.flood addr))
 checks B (RemoveFlood vid addr tunnel) = in_segment B.settings vid (λ g. at_tunnel g.tunnels tunnel (leaving_checks g.flood addr))
 checks B (Fix vid mac target) = in_segment B.settings vid (fix_checks B.settings mac target (B.tables vid))
 checks B (Unfix vid mac) = in_segment B.settings vid (λ g. fixed_check mac (B.tables vid) ∷ [])

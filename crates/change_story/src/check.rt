@@ -12,6 +12,9 @@ use frame_view::{Mac, Vid};
 use ip_udp_view::{Addr, Tunnel};
 use std::alloc::AllocError;
 
+/// The most remote endpoints of a flood list, whatever its limit.
+const MOST_REMOTES: u16 = 512;
+
 /// A check of a change.
 #[derive(Clone, Copy)]
 pub struct Check {
@@ -158,14 +161,15 @@ pub(crate) fn listed_check(listed: bool) -> Check
     }
 }
 
-/// The flood list has room.
-pub(crate) fn flood_check(remotes: usize) -> Check
-    ensures { result ≡ checks.flood_check remotes }
+/// The flood list has room: it has fewer remotes than its limit says, and than 512.
+pub(crate) fn flood_check(most: u16, remotes: usize) -> Check
+    ensures { result ≡ checks.flood_check most remotes }
 {
+    let most = most.min(MOST_REMOTES);
     Check {
         fault: ChangeFault::FloodFull,
-        fails: remotes >= 16,
-        saw: Seen::FloodRoom { remotes },
+        fails: remotes >= usize::from(most),
+        saw: Seen::FloodRoom { remotes, most },
     }
 }
 

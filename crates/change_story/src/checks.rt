@@ -160,9 +160,10 @@ fn put_adding(
     tunnel: Option<Tunnel>,
 ) -> Result<(), AllocError>
     ensures { let S = settings_of state.now in
+        let U = S.overlay.underlay in
         OnOk result (checks.new.items
         ≡ checks.old.items ++ specs.in_segment S vid
-        (λ g. specs.at_tunnel g.tunnels tunnel (specs.flood_checks (own S.overlay.underlay) g.flood addr))) }
+        (λ g. specs.at_tunnel g.tunnels tunnel (specs.flood_checks (own U) U.limits.flood g.flood addr))) }
 {
     let Some(segment) = put_segment(checks, state, vid)? else {
         return Ok(());
@@ -171,18 +172,20 @@ fn put_adding(
         return Ok(());
     };
     let own = state.under().own();
-    put_flooding(checks, &own, segment.flood, addr, kind)
+    let most = state.under().settings().limits.flood;
+    put_flooding(checks, &own, most, segment.flood, addr, kind)
 }
 
-/// Of the address of a remote endpoint that is to come onto a flood list, at a tunnel of this kind.
+/// Of the address of a remote endpoint that is to come onto a flood list of at most so many, at a tunnel of this kind.
 fn put_flooding(
     checks: &mut Vec<Check>,
     own: &Own,
+    most: u16,
     flood: &FloodList,
     addr: Addr,
     kind: Tunnel,
 ) -> Result<(), AllocError>
-    ensures { OnOk result (checks.new.items ≡ checks.old.items ++ specs.flood_checks own.now flood.now addr kind) }
+    ensures { OnOk result (checks.new.items ≡ checks.old.items ++ specs.flood_checks own.now most flood.now addr kind) }
 {
     put_all(
         checks,
@@ -191,7 +194,7 @@ fn put_flooding(
             family_check(own, addr),
             own_check(own, addr),
             absent_check(flood.holds(kind, addr)),
-            flood_check(flood.targets().len()),
+            flood_check(most, flood.targets().len()),
         ],
     )
 }

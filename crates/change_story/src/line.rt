@@ -56,9 +56,7 @@ fn put_words(text: &mut String, seen: Seen) -> Result<(), AllocError>
             "addr another endpoint's",
         )),
         Seen::Listed { listed } => put_listed(text, "addr", listed),
-        Seen::FloodRoom { remotes } => {
-            put_number(text, "flood list has ", remotes as u64, ", at most 16")
-        }
+        Seen::FloodRoom { remotes, most } => put_flood_room(text, remotes, most),
         Seen::MacGroup { group } => put_name(text, "mac ", group_word(group)),
         Seen::Room {
             stood,
@@ -95,6 +93,13 @@ fn put_port(text: &mut String, port: u8, ports: u8) -> Result<(), AllocError>
         ≡ string_bytes text.old ++ (codes "port p" ++ decimal port ++ codes " of " ++ decimal ports)) }
 {
     write!(text, "port p{port} of {ports}")
+}
+
+fn put_flood_room(text: &mut String, remotes: usize, most: u16) -> Result<(), AllocError>
+    ensures { OnOk result (string_bytes text.new
+        ≡ string_bytes text.old ++ (codes "flood list has " ++ decimal remotes ++ codes ", at most " ++ decimal most)) }
+{
+    write!(text, "flood list has {remotes}, at most {most}")
 }
 
 fn put_segments(text: &mut String, segments: u32, most: u16) -> Result<(), AllocError>

@@ -41,9 +41,10 @@ pub enum Seen {
     Listed {
         listed: bool,
     },
-    /// How many remote endpoints the flood list has.
+    /// How many remote endpoints the flood list has, and how many it may have.
     FloodRoom {
         remotes: usize,
+        most: u16,
     },
     /// Whether the MAC address is a group's.
     MacGroup {

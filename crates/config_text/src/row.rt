@@ -4,7 +4,7 @@
 //! below them and a path has still 40 octets at most.
 ghost use Rattle.std.specs.Prelude.{◌≡◌, ◌+◌, ◌≤◌, ◌<◌, ℕ, List, [], length, map, vec_len, IfOk};
 ghost use Rattle.toml.specs.View.{view};
-ghost use Rattle.config_text.specs.Fault.{Meaning, GivesAs};
+ghost use Rattle.config_text.specs.Fault.{Meaning, Gives, GivesAs};
 ghost use Rattle.config_text.specs.Table.{FitNumbers, Place, each};
 
 use crate::fault::SettingsFault;
@@ -18,7 +18,7 @@ pub trait Row {
 
     ghost use Rattle.config_text.specs.Reader.{place_of};
 
-    /// What a table means.
+    /// What a table means, unless memory is refused.
     ghost means: { Self → List Self.Out → Place → Meaning Self.Out };
 
     /// The most octets that stand before a key in its path; 22 leave room for a key of 11.
@@ -27,7 +27,7 @@ pub trait Row {
     fn read(&self, earlier: &[Self::Out], at: &Reader) -> Result<Self::Out, SettingsFault>
         requires few { length earlier.now < 100000 }
         requires short { length (place_of at.now).prefix ≤ longest self.now }
-        ensures { result ≡ means self.now earlier.now (place_of at.now) };
+        ensures { Gives result (means self.now earlier.now (place_of at.now)) };
 }
 
 /// The tables of a list, in order, each read behind those before it. What stands before their keys is no longer than

@@ -80,9 +80,9 @@ same-vids f key same [] = refl
 same-vids f key same (s ∷ segments) = ap (λ (n : ℕ). n ∷ map key (map f segments)) (same s) ∙ ap (λ (l : List ℕ). s.vid ∷ l) (same-vids f key same segments)
 
 -- the VIDs of segments are in range
-within : (o : Own) (n : ℕ) (earlier segments : List SegmentRule) (w : ℕ) → EachBehind (IsSegment o n) earlier segments → is_among w (map (λ s. s.vid) segments) ≡ true → (1 ≤ w) × (w ≤ 4094)
-within o n earlier [] w each h = absurd (false≢true h)
-within o n earlier (s ∷ segments) w each h = by (w == s.vid) refl (within o n (earlier ++ s ∷ []) segments w each.1) h
+within : (o : Own) (m n : ℕ) (earlier segments : List SegmentRule) (w : ℕ) → EachBehind (IsSegment o m n) earlier segments → is_among w (map (λ s. s.vid) segments) ≡ true → (1 ≤ w) × (w ≤ 4094)
+within o m n earlier [] w each h = absurd (false≢true h)
+within o m n earlier (s ∷ segments) w each h = by (w == s.vid) refl (within o m n (earlier ++ s ∷ []) segments w each.1) h
   where
     by : (b : Bool) → (w == s.vid) ≡ b → (is_among w (map (λ x. x.vid) segments) ≡ true → (1 ≤ w) × (w ≤ 4094)) → (b || is_among w (map (λ x. x.vid) segments)) ≡ true → (1 ≤ w) × (w ≤ 4094)
     by true same rest h = subst (λ (v : ℕ). (1 ≤ v) × (v ≤ 4094)) (sym (eqb-true w s.vid same)) each.0.vid
@@ -106,12 +106,12 @@ any-found p (x ∷ xs) h = by (p x) (any-found p xs) h
 abbrev reached_with : Own → List SegmentTunnel → Remote → Bool
 reached_with o tunnels r = is_some (of_kind r.tunnel tunnels) && has_family o r.addr
 
-flood-reached : (o : Own) (tunnels : List SegmentTunnel) (earlier flood : Entries) → EachBehind (IsRemote o tunnels) earlier flood → list_all (reached_with o tunnels) flood ≡ true
-flood-reached o tunnels earlier [] each = refl
-flood-reached o tunnels earlier (r ∷ flood) each =
+flood-reached : (o : Own) (m : ℕ) (tunnels : List SegmentTunnel) (earlier flood : Entries) → EachBehind (IsRemote o m tunnels) earlier flood → list_all (reached_with o tunnels) flood ≡ true
+flood-reached o m tunnels earlier [] each = refl
+flood-reached o m tunnels earlier (r ∷ flood) each =
     and_from (reached_with o tunnels r) (list_all (reached_with o tunnels) flood)
-    (and_from (is_some (of_kind r.tunnel tunnels)) (has_family o r.addr) (any-found (λ t. same_kind t.kind r.tunnel) tunnels each.0.kind) (family-added o earlier r.tunnel r.addr (sym (none_is (first (add_faults o earlier r.tunnel r.addr)) each.0.taken))))
-    (flood-reached o tunnels (earlier ++ r ∷ []) flood each.1)
+    (and_from (is_some (of_kind r.tunnel tunnels)) (has_family o r.addr) (any-found (λ t. same_kind t.kind r.tunnel) tunnels each.0.kind) (family-added o m earlier r.tunnel r.addr (sym (none_is (first (add_faults o m earlier r.tunnel r.addr)) each.0.taken))))
+    (flood-reached o m tunnels (earlier ++ r ∷ []) flood each.1)
 
 -- what holds of the segments of all rules holds of each that they tell
 told-each : (p : Tunneled → Bool) (rules : List TunnelRule) (w : ℕ) (g : Tunneled) → list_all (λ r. p (overlay.segment_of r)) rules ≡ true → get (from_entries {R = nat_cmp} (map (λ r. (r.vid, overlay.segment_of r)) rules)) w ≡ Some g → p g ≡ true
@@ -127,13 +127,13 @@ told-each p (r ∷ rules) w g all is =
 abbrev flood_reached : Own → Tunneled → Bool
 flood_reached o g = list_all (reached_with o g.tunnels) g.flood
 
-segments-reached : (o : Own) (n : ℕ) (earlier segments : List SegmentRule) → EachBehind (IsSegment o n) earlier segments → list_all (λ r. flood_reached o (overlay.segment_of r)) (map tunnel_rule segments) ≡ true
-segments-reached o n earlier [] each = refl
-segments-reached o n earlier (s ∷ segments) each =
-    and_from (flood_reached o (overlay.segment_of (tunnel_rule s))) (list_all (λ r. flood_reached o (overlay.segment_of r)) (map tunnel_rule segments)) (flood-reached o s.tunnels [] s.flood each.0.flood) (segments-reached o n (earlier ++ s ∷ []) segments each.1)
+segments-reached : (o : Own) (m n : ℕ) (earlier segments : List SegmentRule) → EachBehind (IsSegment o m n) earlier segments → list_all (λ r. flood_reached o (overlay.segment_of r)) (map tunnel_rule segments) ≡ true
+segments-reached o m n earlier [] each = refl
+segments-reached o m n earlier (s ∷ segments) each =
+    and_from (flood_reached o (overlay.segment_of (tunnel_rule s))) (list_all (λ r. flood_reached o (overlay.segment_of r)) (map tunnel_rule segments)) (flood-reached o m s.tunnels [] s.flood each.0.flood) (segments-reached o m n (earlier ++ s ∷ []) segments each.1)
 
-told-reached : (U : Underlay) (n : ℕ) (segments : List SegmentRule) (w : ℕ) → EachBehind (IsSegment (own U) n) [] segments → list_all (λ r. reaches (overlay.told U (map tunnel_rule segments)) w r.tunnel r.addr) (overlay.flood_at (overlay.told U (map tunnel_rule segments)) w) ≡ true
-told-reached U n segments w each = by (overlay.segment_at (overlay.told U (map tunnel_rule segments)) w) (λ g is. told-each (flood_reached (own U)) (map tunnel_rule segments) w g (segments-reached (own U) n [] segments each) is)
+told-reached : (U : Underlay) (m n : ℕ) (segments : List SegmentRule) (w : ℕ) → EachBehind (IsSegment (own U) m n) [] segments → list_all (λ r. reaches (overlay.told U (map tunnel_rule segments)) w r.tunnel r.addr) (overlay.flood_at (overlay.told U (map tunnel_rule segments)) w) ≡ true
+told-reached U m n segments w each = by (overlay.segment_at (overlay.told U (map tunnel_rule segments)) w) (λ g is. told-each (flood_reached (own U)) (map tunnel_rule segments) w g (segments-reached (own U) m n [] segments each) is)
   where
     by : (o : Option Tunneled) → ((g : Tunneled) → o ≡ Some g → flood_reached (own U) g ≡ true) → list_all (λ r. is_some (option_and_then (λ h. overlay.tunnel_of h r.tunnel) o) && has_family (own U) r.addr) (option_map_or (λ h. h.flood) o []) ≡ true
     by None all = refl
@@ -173,8 +173,8 @@ pub sound-opened : (s : Told) → MeetsRules s → AreSound (ports-told s) (over
 sound-opened s rules = record {
   members = λ w. get-told (λ r. r.vid) ports.members_of (map member_rule s.segments) w ∙ ap (is_among w) (same-vids member_rule (λ r. r.vid) (λ x. refl) s.segments) ∙ sym (stand w);
   tunnels = λ w. get-told (λ r. r.vid) overlay.segment_of (map tunnel_rule s.segments) w ∙ ap (is_among w) (same-vids tunnel_rule (λ r. r.vid) (λ x. refl) s.segments) ∙ sym (stand w);
-  vids = λ w there. within (own s.underlay) (length s.ports) [] s.segments w rules.segments (sym (stand w) ∙ there);
-  flood = λ w. told-reached s.underlay (length s.ports) s.segments w rules.segments;
+  vids = λ w there. within (own s.underlay) s.underlay.limits.flood (length s.ports) [] s.segments w rules.segments (sym (stand w) ∙ there);
+  flood = λ w. told-reached s.underlay s.underlay.limits.flood (length s.ports) s.segments w rules.segments;
   tables = λ w. new-reached (overlay-told s) w (map table_rule s.segments);
 }
   where

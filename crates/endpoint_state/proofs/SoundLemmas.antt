@@ -284,8 +284,8 @@ negated true h = refl
 negated false h = absurd (cc)
 
 -- an address that is added has the family of an own one
-pub family-added : (own : Own) (flood : Entries) (kind : Tunnel) (addr : Addr) → None ≡ first (add_faults own flood kind addr) → has_family own addr ≡ true
-family-added own flood kind addr none = negated (has_family own addr) ((NothingHolds-from (add_faults own flood kind addr) (sym none)).1.0)
+pub family-added : (own : Own) (most : ℕ) (flood : Entries) (kind : Tunnel) (addr : Addr) → None ≡ first (add_faults own most flood kind addr) → has_family own addr ≡ true
+family-added own most flood kind addr none = negated (has_family own addr) ((NothingHolds-from (add_faults own most flood kind addr) (sym none)).1.0)
 
 -- and so has one where an entry is fixed
 pub family-fixed : (own : Own) (addr : Addr) → None ≡ first (addr_faults own addr) → has_family own addr ≡ true

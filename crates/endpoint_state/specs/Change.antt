@@ -107,7 +107,7 @@ fault_at S vid target = in_segment (segment_at S vid) (λ s. target_fault (own S
 abbrev pub refused : Settings → Change → Option ChangeFault
 refused S (AddFlood vid addr tunnel) =
     in_segment (segment_at S vid) (λ s. at_tunnel (kind_named s.tunnels tunnel)
-    (λ kind. option_map of_flood (first (add_faults (own S.overlay.underlay) s.flood kind addr))))
+    (λ kind. option_map of_flood (first (add_faults (own S.overlay.underlay) S.overlay.underlay.limits.flood s.flood kind addr))))
 refused S (RemoveFlood vid addr tunnel) =
     in_segment (segment_at S vid)
     (λ s. at_tunnel (kind_named s.tunnels tunnel) (λ kind. first ((NotThere, not (holds s.flood kind addr)) ∷ [])))

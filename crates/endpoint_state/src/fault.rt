@@ -16,14 +16,14 @@ pub enum ChangeFault {
     AlreadyThere,
     /// The remote endpoint isn't on the flood list, or the address has no fixed entry.
     NotThere,
-    /// The flood list has 16 entries.
+    /// The flood list has as many entries as the limits in force say.
     FloodFull,
     /// The address isn't live, and the segment has its limit of live entries.
     TableFull,
     /// A group address where an individual one is asked for.
     GroupAddress,
-    /// An ageing outside 10 to 1,000,000 seconds, a limit outside 1 to what the limits in force say, or the address 0.0.0.0, 255.255.255.255 or
-    /// ::.
+    /// An ageing outside 10 to 1,000,000 seconds, a limit outside 1 to what the limits in force say, or the address 0.0.0.0,
+    /// 255.255.255.255 or ::.
     OutOfRange,
     /// The endpoint has no own address of this family.
     NoFamily,

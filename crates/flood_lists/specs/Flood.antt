@@ -1,5 +1,5 @@
 -- Flood lists, and the endpoint's own addresses. It states no standard.
-use Rattle.std.specs.Prelude.{◌≢◌, ℕ, Bool, false, not, ◌&&◌, nat_le, is_some, List, [], ◌∷◌, length, filter, replicate, Option, None, Some}
+use Rattle.std.specs.Prelude.{◌≢◌, ℕ, Bool, false, not, ◌&&◌, ◌||◌, ◌==◌, nat_le, nat_lt, is_some, List, [], ◌∷◌, length, min, filter, replicate, Option, None, Some}
 use Rattle.std.specs.List.{AllPairs, list_any}
 use Rattle.header_octets.specs.Octets.{is_same}
 use Rattle.ip_udp_view.specs.declared.addr.Addr.{Addr}
@@ -58,14 +58,29 @@ holds flood tunnel addr = list_any (is_entry tunnel addr) flood
 abbrev pub without : Entries → Tunnel → Addr → Entries
 without flood tunnel addr = filter (λ entry. not (is_entry tunnel addr entry)) flood
 
+-- ---- room
+
+-- a list has more than 16 entries, so it has a room
+abbrev pub is_wide : Entries → Bool
+is_wide flood = nat_lt 16 (length flood)
+
+-- a list takes one entry more without memory: one of 16 has a room beside it
+abbrev pub room_for_one : Entries → Option ℕ → Bool
+room_for_one flood room = not (length flood == 16) || is_some room
+
+-- a list of at most so many takes entries without memory
+abbrev pub has_room : ℕ → Entries → Option ℕ → Bool
+has_room most flood room = nat_le most 16 || room_for_one flood room
+
 -- ---- why an entry isn't added, in the order of the checks
 
--- an address that no packet can be sent to, one of a family without an own address, an entry that is there, or no room
-abbrev pub add_faults : Own → Entries → Tunnel → Addr → List (FloodFault × Bool)
-add_faults own flood tunnel addr =
+-- an address that no packet can be sent to, one of a family without an own address, an entry that is there, or a list that has as many as
+-- its limit says, or 512
+abbrev pub add_faults : Own → ℕ → Entries → Tunnel → Addr → List (FloodFault × Bool)
+add_faults own most flood tunnel addr =
     (OutOfRange, not (is_usable addr))
     ∷ (NoFamily, not (has_family own addr))
     ∷ (OwnAddress, is_own own addr)
     ∷ (AlreadyThere, holds flood tunnel addr)
-    ∷ (FloodFull, nat_le 16 (length flood))
+    ∷ (FloodFull, nat_le (min most 512) (length flood))
     ∷ []

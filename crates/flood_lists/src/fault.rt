@@ -16,7 +16,7 @@ pub enum FloodFault {
     /// The entry is on the list.
     #[error("AlreadyThere")]
     AlreadyThere,
-    /// The list has 16 entries.
+    /// The list has as many entries as its limit says, or 512.
     #[error("FloodFull")]
     FloodFull,
 }

@@ -1,22 +1,22 @@
 //! A flood list.
-ghost use Rattle.std.specs.Prelude.{◌≡◌, ◌≤◌, [], ◌∷◌, ◌++◌, length, is_ok, OnOk, OnErr};
+ghost use Rattle.std.specs.Prelude.{◌≡◌, ◌≤◌, ◌==◌, ◌&&◌, ◌||◌, [], ◌∷◌, ◌++◌, IsTrue, None, length, if◌then◌else◌, is_ok, is_some, IfOk, OnOk, OnErr};
 ghost use Rattle.std.specs.List.{position};
 ghost use Rattle.flood_lists.specs.First.{first, fault_of};
-ghost use Rattle.flood_lists.specs.Flood.{IsWithoutRepeats, is_entry, holds, add_faults, without};
+ghost use Rattle.flood_lists.specs.Flood.{IsWithoutRepeats, is_entry, is_wide, holds, add_faults, has_room, without};
 
-use crate::{FloodFault, NotThere, Own, Remote};
-use arrayvec::ArrayVec;
+use crate::stored::Stored;
+use crate::{FloodFault, NotThere, Own, Remote, Room};
 use ip_udp_view::{Addr, Tunnel};
 use std::marker::Model;
 
-/// The most entries that a list has.
-const MOST_ENTRIES: usize = 16;
+/// The most entries of a list, whatever its limit.
+const MOST_ENTRIES: u16 = 512;
 
-/// At most 16 remote endpoints, none of them twice, in the order in which they were added; seen by contracts as their
-/// list.
+/// At most 512 remote endpoints, none of them twice, in the order in which they were added; seen by contracts as their
+/// list. Up to 16 stand in the list itself; with the 17th it takes a [`Room`], and gives it back with it.
 #[derive(Debug, Drop)]
 pub struct FloodList {
-    entries: ArrayVec<Remote, MOST_ENTRIES>,
+    entries: Stored,
 }
 
 impl Model for FloodList {
@@ -24,9 +24,9 @@ impl Model for FloodList {
 
     ghost Value = { Entries };
 
-    ghost view = { λ l. l.entries.items };
+    ghost view = { λ l. l.entries };
 
-    ghost invariant = { λ l. IsWithoutRepeats l.entries.items };
+    ghost invariant = { λ l. IsWithoutRepeats l.entries };
 }
 
 impl FloodList {
@@ -35,15 +35,26 @@ impl FloodList {
         ensures { result ≡ [] }
     {
         FloodList {
-            entries: ArrayVec::new(),
+            entries: Stored::new(),
         }
     }
 
-    /// Puts an entry last. A list that refuses stays as it was.
-    pub fn add(&mut self, tunnel: Tunnel, addr: Addr, own: &Own) -> Result<(), FloodFault>
-        ensures fault { fault_of result ≡ first (add_faults own.now self.old tunnel addr) }
+    /// Puts an entry last, where there are fewer than so many, and than 512. The 17th takes the room, which is there then. A
+    /// list that refuses stays as it was.
+    pub fn add(
+        &mut self,
+        tunnel: Tunnel,
+        addr: Addr,
+        own: &Own,
+        most: u16,
+        room: &mut Option<Room>,
+    ) -> Result<(), FloodFault>
+        requires { IsTrue (has_room most self.old room.old) }
+        ensures fault { fault_of result ≡ first (add_faults own.now most self.old tunnel addr) }
         ensures added { OnOk result (self.new ≡ self.old ++ record { tunnel = tunnel; addr = addr } ∷ []) }
         ensures refused { OnErr result (self.new ≡ self.old) }
+        ensures room { room.new ≡ (if is_ok result && length self.old == 16 then None else room.old) }
+        ensures kept { (is_some room.new || is_wide self.new) ≡ (is_some room.old || is_wide self.old) }
     {
         if !addr.is_usable() {
             return Err(FloodFault::OutOfRange);
@@ -57,24 +68,33 @@ impl FloodList {
         if self.holds(tunnel, addr) {
             return Err(FloodFault::AlreadyThere);
         }
-        if self.entries.is_full() {
+        if self.targets().len() >= usize::from(most.min(MOST_ENTRIES)) {
             return Err(FloodFault::FloodFull);
         }
-        self.entries.push(Remote { tunnel, addr });
+        self.entries.push(Remote { tunnel, addr }, room);
         Ok(())
     }
 
-    /// Takes an entry out; those behind it move up. `NotThere`: it isn't on the list, which stays as it was.
-    pub fn remove(&mut self, tunnel: Tunnel, addr: Addr) -> Result<(), NotThere>
+    /// Takes an entry out; those behind it move up. Where 16 are left of 17, the room comes back. `NotThere`: it isn't on the
+    /// list, which stays as it was.
+    pub fn remove(&mut self, tunnel: Tunnel, addr: Addr) -> Result<Option<Room>, NotThere>
         ensures there { is_ok result ≡ holds self.old tunnel addr }
         ensures removed { OnOk result (self.new ≡ without self.old tunnel addr) }
         ensures refused { OnErr result (self.new ≡ self.old) }
+        ensures room { IfOk result (λ room. is_some room ≡ (length self.old == 17)) }
+        ensures kept { IfOk result (λ room. (is_some room || is_wide self.new) ≡ is_wide self.old) }
     {
         let Some(place) = self.place(tunnel, addr) else {
             return Err(NotThere);
         };
-        self.entries.remove(place);
-        Ok(())
+        Ok(self.entries.remove(place))
+    }
+
+    /// The room of the list, which one of more than 16 entries has.
+    pub fn into_room(self) -> Option<Room>
+        ensures { is_some result ≡ is_wide self }
+    {
+        self.entries.into_room()
     }
 
     /// Whether an entry is on the list.
@@ -87,7 +107,7 @@ impl FloodList {
     /// The entries, in the order in which they were added.
     pub fn targets(&self) -> &[Remote]
         ensures value { result.now ≡ self.now }
-        ensures few { length result.now ≤ 16 }
+        ensures few { length result.now ≤ 512 }
         ensures no_repeats { IsWithoutRepeats result.now }
     {
         self.entries.as_slice()
@@ -97,7 +117,7 @@ impl FloodList {
     fn place(&self, tunnel: Tunnel, addr: Addr) -> Option<usize>
         ensures { result ≡ position (is_entry tunnel addr) self.now }
     {
-        self.entries
+        self.targets()
             .iter()
             .position(|entry| entry.tunnel == tunnel && entry.addr == addr)
     }

@@ -68,7 +68,7 @@ target-own c addrs ports tunnels (target.Remote addr tunnel) = at_tunnel-own c (
 -- what the settings refuse a change with is no table's fault
 settings-own : (S : Settings) (c : Change) → IsOwn c (refused S c)
 settings-own S (AddFlood vid addr tunnel) =
-    in_segment-own (AddFlood vid addr tunnel) (segment_at S vid) _ (λ s. at_tunnel-own (AddFlood vid addr tunnel) (kind_named s.tunnels tunnel) _ (λ kind. flood-own (AddFlood vid addr tunnel) (first (add_faults (own S.overlay.underlay) s.flood kind addr))))
+    in_segment-own (AddFlood vid addr tunnel) (segment_at S vid) _ (λ s. at_tunnel-own (AddFlood vid addr tunnel) (kind_named s.tunnels tunnel) _ (λ kind. flood-own (AddFlood vid addr tunnel) (first (add_faults (own S.overlay.underlay) S.overlay.underlay.limits.flood s.flood kind addr))))
 settings-own S (RemoveFlood vid addr tunnel) =
     in_segment-own (RemoveFlood vid addr tunnel) (segment_at S vid) _ (λ s. at_tunnel-own (RemoveFlood vid addr tunnel) (kind_named s.tunnels tunnel) _ (λ kind. row (RemoveFlood vid addr tunnel) NotThere (not (holds s.flood kind addr)) None refl refl))
 settings-own S (Fix vid mac target) =

@@ -112,7 +112,7 @@ added-reached : (S : Settings) (vid : ℕ) (addr : Addr) (tunnel : Option Tunnel
 added-reached S vid addr tunnel s is none all =
     let t = at-tunnel (kind_named s.tunnels tunnel) _ (in-segment (segment_at S vid) _ s is none) in
     reached-added S.overlay vid s.flood (kind_in s.tunnels tunnel) addr all
-    (reached-in S vid s tunnel t.0 addr is t.1 (family-added (own S.overlay.underlay) s.flood t.0 addr (sym (no_fault _ t.2))))
+    (reached-in S vid s tunnel t.0 addr is t.1 (family-added (own S.overlay.underlay) S.overlay.underlay.limits.flood s.flood t.0 addr (sym (no_fault _ t.2))))
 
 fixed-reached : (S : Settings) (vid : ℕ) (s : SegmentSettings) (goal : Goal) (ports : ℕ) → segment_at S vid ≡ Some s → target_fault (own S.overlay.underlay) ports s.tunnels goal ≡ None → is_reached S.overlay vid (place_of s.tunnels goal) ≡ true
 fixed-reached S vid s (target.Local port) ports is none = refl

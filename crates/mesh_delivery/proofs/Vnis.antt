@@ -34,10 +34,10 @@ abbrev by-vid : List SegmentRule → Segments
 by-vid rules = from_entries (map (λ r. (r.vid, segment_of r)) (map tunnel_rule rules))
 
 -- of the segment of a VID
-told-vni : (o : Own) (n : ℕ) (earlier rules : List SegmentRule) (vid : ℕ) (g : Segment) (kind : Tunnel) (t : SegmentTunnel) → EachBehind (IsSegment o n) earlier rules → get (by-vid rules) vid ≡ Some g → tunnel_of g kind ≡ Some t → IsVni t.vni
-told-vni o n earlier [] vid g kind t each is h = absurd (let none : get (by-vid []) vid ≡ None = get-empty nat_cmp vid in cc)
-told-vni o n earlier (r ∷ rules) vid g kind t each is h =
-    by (vid == r.vid) (told-vni o n (earlier ++ r ∷ []) rules vid g kind t each.1) (sym (get-insert_at (by-vid rules) r.vid (segment_of (tunnel_rule r)) vid) ∙ is)
+told-vni : (o : Own) (most n : ℕ) (earlier rules : List SegmentRule) (vid : ℕ) (g : Segment) (kind : Tunnel) (t : SegmentTunnel) → EachBehind (IsSegment o most n) earlier rules → get (by-vid rules) vid ≡ Some g → tunnel_of g kind ≡ Some t → IsVni t.vni
+told-vni o most n earlier [] vid g kind t each is h = absurd (let none : get (by-vid []) vid ≡ None = get-empty nat_cmp vid in cc)
+told-vni o most n earlier (r ∷ rules) vid g kind t each is h =
+    by (vid == r.vid) (told-vni o most n (earlier ++ r ∷ []) rules vid g kind t each.1) (sym (get-insert_at (by-vid rules) r.vid (segment_of (tunnel_rule r)) vid) ∙ is)
   where
     by : (b : Bool) → (get (by-vid rules) vid ≡ Some g → tunnel_of g kind ≡ Some t → IsVni t.vni) → cond b (Some (segment_of (tunnel_rule r))) (get (by-vid rules) vid) ≡ Some g → IsVni t.vni
     by true rest e = let same : segment_of (tunnel_rule r) ≡ g = cc in found-vni [] r.tunnels kind t each.0.tunnels (ap (λ (x : Segment). tunnel_of x kind) same ∙ h)
@@ -50,4 +50,4 @@ some-of (Some g) kind t h = (g, refl, h)
 pub vnis-told : (s : Told) → MeetsRules s → (vid : ℕ) (kind : Tunnel) (t : SegmentTunnel) → tunnel_at (settings_told s).overlay vid kind ≡ Some t → IsVni t.vni
 vnis-told s rules vid kind t h =
     let found = some-of (get (settings_told s).overlay.segments vid) kind t h in
-    told-vni (own s.underlay) (length s.ports) [] s.segments vid found.0 kind t rules.segments found.1 found.2
+    told-vni (own s.underlay) s.underlay.limits.flood (length s.ports) [] s.segments vid found.0 kind t rules.segments found.1 found.2

@@ -1,5 +1,5 @@
 -- Limits that nobody asks for change nothing: what settings meant before, they mean.
-use Rattle.std.proofs.Common.{◌≡◌, ℕ, zero, suc, codes, ◌≤◌, Bool, true, false, cond, ◌&&◌, nat_le, nat_lt, nat_eq, List, [], ◌∷◌, ◌++◌, length, Option, Some, None, option_and_then, is_some, Ok, Err, ℤ, pos, negsuc, nat_cmp, refl, sym, ap, subst, ◌∙◌, inl, inr, arith}
+use Rattle.std.proofs.Common.{◌≡◌, ℕ, zero, suc, codes, ◌≤◌, Bool, true, false, cond, ◌&&◌, nat_le, nat_eq, List, [], ◌∷◌, ◌++◌, length, Option, Some, None, option_and_then, is_some, Ok, Err, ℤ, pos, negsuc, nat_cmp, refl, sym, ap, subst, ◌∙◌, inl, inr, arith}
 use Rattle.std.proofs.lemmas.Bool.{cases_Bool, and_parts, leb-true, false≢true}
 use Rattle.std.specs.Cmp.Lexicographic.{pointwise, slice_cmp}
 use Rattle.toml.specs.Data.{Data, integer, Members, no_members, member, same_key, get_member, as_integer}
@@ -7,19 +7,17 @@ use Rattle.flood_lists.specs.declared.own.Own.{Own}
 use Rattle.underlay.specs.declared.limits.Limits.{Limits}
 use Rattle.underlay.specs.declared.settings.Underlay.{Underlay}
 use Rattle.underlay.specs.Settings.{own}
-use Rattle.config_text.specs.declared.fault.SettingsFault.TheVariants.{BadValue, OverLimit}
+use Rattle.config_text.specs.declared.fault.SettingsFault.TheVariants.{BadValue}
 use Rattle.config_text.specs.Fault.{Meaning, ◌>>=◌}
 use Rattle.config_text.specs.Column.{in_range, range, truth}
-use Rattle.config_text.specs.Table.{Place, top, path, required_value, required, default_value, optional_value, all_known, only, table_value, subtable, required_items, each, refuse_if}
-use Rattle.overlay_settings.specs.declared.segment.SegmentRule.{SegmentRule}
-use Rattle.overlay_settings.specs.Settings.{Settings, sum_of_limits}
+use Rattle.config_text.specs.Table.{Place, top, path, required_value, required, default_value, optional_value, all_known, only, table_value, subtable, required_items, each}
+use Rattle.overlay_settings.specs.Settings.{Settings}
 use Rattle.overlay_config.specs.declared.version.Version.{Version}
 use Rattle.overlay_config.specs.declared.version.Version.TheVariants.{One, Two, Three}
 use Rattle.overlay_config.specs.Version.{version_named}
 use Rattle.overlay_config.specs.Limits.{addresses_in, usual_limits, limits_in, limits_of}
 use Rattle.overlay_config.specs.Port.{port_of}
 use Rattle.overlay_config.specs.Underlay.{underlay_of, underlay_keys, partial_of}
-use Rattle.overlay_config.specs.Segment.{segment_of, rules_of}
 use Rattle.overlay_config.specs.Settings.{is_third, top_keys, segments_of, version_of, given_pool_of, pool_for, settings_of}
 use Rattle.overlay_config.specs.Before as before
 use Rattle.overlay_config.specs.Migrate.{with_value}

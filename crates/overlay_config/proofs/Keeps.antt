@@ -41,17 +41,17 @@ row_table name k (datetime x) at e = absurd cc
 row_table name k (array x) at e = absurd cc
 row_table name k (table m) at e = (m, refl, sym (ok_is (place (numbered name k ++ codes ".") m) at e))
 
-each_kept : (own : Own) (entries ports : ℕ) (name : List ℕ) (earlier : List SegmentRule) (ds : List Data) (all : List SegmentRule) → each (segment_of One own entries ports) name earlier ds ≡ Ok all → each (segment_of Two own entries ports) name earlier (map migrated_item ds) ≡ Ok all
-each_kept own entries ports name earlier [] all e = e
-each_kept own entries ports name earlier (d ∷ ds) all e =
+each_kept : (own : Own) (limits : Limits) (ports : ℕ) (name : List ℕ) (earlier : List SegmentRule) (ds : List Data) (all : List SegmentRule) → each (segment_of One own limits ports) name earlier ds ≡ Ok all → each (segment_of Two own limits ports) name earlier (map migrated_item ds) ≡ Ok all
+each_kept own limits ports name earlier [] all e = e
+each_kept own limits ports name earlier (d ∷ ds) all e =
     let n : ℕ = length earlier + 1 in
     let q : List ℕ = numbered name n ++ codes "." in
     bind_then (row_place name n d) _ all e (λ at at-is e0.
-    bind_then (segment_of One own entries ports earlier at) _ all e0 (λ x x-is e1.
+    bind_then (segment_of One own limits ports earlier at) _ all e0 (λ x x-is e1.
     let r = row_table name n d at at-is in
     gives (row_place name n (migrated_item d)) _ (place q (migrated_segment r.0)) all (ap (λ y. row_place name n (migrated_item y)) r.1)
-    (gives (segment_of Two own entries ports earlier (place q (migrated_segment r.0))) _ x all (segment_kept own entries ports earlier q r.0 x (subst (λ a. segment_of One own entries ports earlier a ≡ Ok x) r.2 x-is))
-    (each_kept own entries ports name (earlier ++ x ∷ []) ds all e1))))
+    (gives (segment_of Two own limits ports earlier (place q (migrated_segment r.0))) _ x all (segment_kept own limits ports earlier q r.0 x (subst (λ a. segment_of One own limits ports earlier a ≡ Ok x) r.2 x-is))
+    (each_kept own limits ports name (earlier ++ x ∷ []) ds all e1))))
 
 list_of_migrated : (ds : Items) → list_of (migrated_items ds) ≡ map migrated_item (list_of ds)
 list_of_migrated no_items = refl
@@ -107,10 +107,10 @@ segments_kept : (limits : Limits) (own : Own) (ports : ℕ) (ms : Members) (segm
 unfolding segments_of
 segments_kept limits own ports ms segments e =
     bind_then (required_items (top ms) (codes "segment") limits.segments) _ segments e (λ tables tables-is e0.
-    bind_then (each (segment_of One own limits.entries ports) (codes "segment") [] tables) _ segments e0 (λ rows rows-is e1.
+    bind_then (each (segment_of One own limits ports) (codes "segment") [] tables) _ segments e0 (λ rows rows-is e1.
     gives (required_items (top (version_2 ms)) (codes "segment") limits.segments) _ (map migrated_item tables) segments
     (ap (required_from (codes "segment") limits.segments) (segment_there ms) ∙ list_kept (codes "segment") limits.segments (get_member (codes "segment") ms) tables tables-is)
-    (gives (each (segment_of Two own limits.entries ports) (codes "segment") [] (map migrated_item tables)) _ rows segments (each_kept own limits.entries ports (codes "segment") [] tables rows rows-is) e1)))
+    (gives (each (segment_of Two own limits ports) (codes "segment") [] (map migrated_item tables)) _ rows segments (each_kept own limits ports (codes "segment") [] tables rows rows-is) e1)))
 
 top_known : (ms : Members) → all_known (top_keys false) ms ≡ true → all_known (top_keys false) (version_2 ms) ≡ true
 top_known ms all =

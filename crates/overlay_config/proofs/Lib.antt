@@ -1,5 +1,6 @@
 mod Pairs
 mod Readings
+mod Roomy
 mod Hops
 mod Numbers
 mod Tunnels
@@ -10,5 +11,6 @@ mod SegmentKept
 mod Third
 mod Asked
 mod Versions
+mod FloodAsked
 mod PortsAsked
 mod Keeps

@@ -1,5 +1,5 @@
 -- Settings that are read keep to the rules.
-use Rattle.std.proofs.Common.{◌≡◌, ℕ, min, ◌≤◌, ◌+◌, ◌++◌, ◌∷◌, [], Bool, true, false, cond, ◌&&◌, ◌||◌, not, nat_lt, List, length, map, Option, Some, None, option_map, is_some, is_none, Ok, codes, refl, sym, subst, lit≤, arith}
+use Rattle.std.proofs.Common.{◌≡◌, ℕ, min, ◌≤◌, ◌+◌, ◌*◌, ◌++◌, ◌∷◌, [], Bool, true, false, cond, ◌&&◌, ◌||◌, not, nat_lt, List, length, map, Option, Some, None, option_map, is_some, is_none, Ok, codes, refl, sym, subst, lit≤, arith}
 use Rattle.std.specs.Prelude.{IsTrue, IsFalse, IfSome, ◌==◌}
 use Rattle.std.specs.List.{list_any}
 use Rattle.std.proofs.lemmas.Bool.{ltb-false, and_parts, false≢true}
@@ -15,7 +15,6 @@ use Rattle.geneve_head.specs.Options.{holds}
 use Rattle.vlan_ports.specs.declared.port.Accept.TheVariants.{All}
 use Rattle.vlan_ports.specs.declared.port.PortRule.{PortRule}
 use Rattle.underlay.specs.declared.segment.PeerRule.TheVariants.{Any}
-use Rattle.underlay.specs.declared.segment.TagRule.TheVariants.{Drop}
 use Rattle.underlay.specs.declared.limits.Limits.{Limits}
 use Rattle.underlay.specs.declared.settings.Underlay.{Underlay}
 use Rattle.underlay.specs.Settings.{own}
@@ -200,6 +199,9 @@ usual_ports = (lit≤ tt, lit≤ tt)
 usual_segments : IsWithin 1 4094 256
 usual_segments = (lit≤ tt, lit≤ tt)
 
+usual_flood : IsWithin 1 512 16
+usual_flood = (lit≤ tt, lit≤ tt)
+
 usual_hops : IsWithin 1 4096 64
 usual_hops = (lit≤ tt, lit≤ tt)
 
@@ -212,12 +214,14 @@ usual_addresses = (lit≤ tt, lit≤ tt)
 record AreLimits (l : Limits) : Type 0 where
   ports : IsWithin 1 255 l.ports
   segments : IsWithin 1 4094 l.segments
+  flood : IsWithin 1 512 l.flood
+  product : l.segments * l.flood ≤ 1048576
   hops : IsWithin 1 4096 l.hops
   entries : IsWithin 1 131072 l.entries
   addresses : IsWithin 1 1048576 l.addresses
 
 usual_are : AreLimits usual_limits
-usual_are = record { ports = usual_ports; segments = usual_segments; hops = usual_hops; entries = usual_entries; addresses = usual_addresses }
+usual_are = record { ports = usual_ports; segments = usual_segments; flood = usual_flood; product = lit≤ tt; hops = usual_hops; entries = usual_entries; addresses = usual_addresses }
 
 limits_in_meet : (at : Place) (l : Limits) → limits_in at ≡ Ok l → AreLimits l
 unfolding limits_in
@@ -225,16 +229,20 @@ limits_in_meet at l e =
     bind_then (only at limit_keys) _ l e (λ known known-is e0.
     bind_then (defaulted at (codes "ports") (range 1 255) 16) _ l e0 (λ ports ports-is e1.
     bind_then (defaulted at (codes "segments") (range 1 4094) 256) _ l e1 (λ segments segments-is e2.
-    bind_then (defaulted at (codes "hops") (range 1 4096) 64) _ l e2 (λ hops hops-is e3.
-    bind_then (defaulted at (codes "entries") (range 1 131072) 8192) _ l e3 (λ entries entries-is e4.
-    bind_then (defaulted at (codes "addresses") (range 1 1048576) 65536) _ l e4 (λ addresses addresses-is e5.
-    subst AreLimits (ok_is _ l e5) (record {
+    bind_then (defaulted at (codes "flood") (range 1 512) 16) _ l e2 (λ flood flood-is e3.
+    bind_then (defaulted at (codes "hops") (range 1 4096) 64) _ l e3 (λ hops hops-is e4.
+    bind_then (defaulted at (codes "entries") (range 1 131072) 8192) _ l e4 (λ entries entries-is e5.
+    bind_then (defaulted at (codes "addresses") (range 1 1048576) 65536) _ l e5 (λ addresses addresses-is e6.
+    bind_then (refuse_if (nat_lt 1048576 (segments * flood)) (OverLimit (path at (codes "flood")))) _ l e6 (λ few few-is e7.
+    subst AreLimits (ok_is _ l e7) (record {
       ports = defaulted_range at (codes "ports") 1 255 16 ports usual_ports ports-is;
       hops = defaulted_range at (codes "hops") 1 4096 64 hops usual_hops hops-is;
       segments = defaulted_range at (codes "segments") 1 4094 256 segments usual_segments segments-is;
+      flood = defaulted_range at (codes "flood") 1 512 16 flood usual_flood flood-is;
+      product = ltb-false 1048576 (segments * flood) (refuse_ok _ _ few few-is);
       entries = defaulted_range at (codes "entries") 1 131072 8192 entries usual_entries entries-is;
       addresses = defaulted_range at (codes "addresses") 1 1048576 65536 addresses usual_addresses addresses-is;
-    })))))))
+    })))))))))
 
 limits_meet : (version : Version) (at : Place) (l : Limits) → limits_of version at ≡ Ok l → AreLimits l
 limits_meet One at l e = subst AreLimits (ok_is usual_limits l e) usual_are
@@ -279,6 +287,8 @@ underlay_meets version limits at u are e =
         hops = h.1;
         port_limit = are.ports;
         limits = are.segments;
+        flood_limit = are.flood;
+        flood_product = are.product;
         hop_limit = are.hops;
         entries = are.entries;
         addresses = are.addresses;
@@ -349,34 +359,34 @@ local_meets third entries ports some at x e =
       tagged = members_meet at (codes "tagged") ports untagged tagged tagged-is;
     }))))
 
-tables_meet : (third : Bool) (own : Own) (entries ports : ℕ) (some : 1 ≤ entries) (at : Place) (x : TunnelRules × LocalRules) → tables_of third own entries ports at ≡ Ok x → AreTunnels own x.0 × AreLocal entries ports x.1
-tables_meet third own entries ports some at x e =
-    bind_then (tunnels_of own at) _ x e (λ tunnels tunnels-is e0.
-    bind_then (local_of third entries ports at) _ x e0 (λ local local-is e1.
-    subst (λ r. AreTunnels own r.0 × AreLocal entries ports r.1) (ok_is _ x e1)
-    (tunnels_meet own at tunnels tunnels-is, local_meets third entries ports some at local local-is)))
+tables_meet : (third : Bool) (own : Own) (limits : Limits) (ports : ℕ) (some : 1 ≤ limits.entries) (at : Place) (x : TunnelRules × LocalRules) → tables_of third own limits ports at ≡ Ok x → AreTunnels own limits.flood x.0 × AreLocal limits.entries ports x.1
+tables_meet third own limits ports some at x e =
+    bind_then (tunnels_of own limits.flood at) _ x e (λ tunnels tunnels-is e0.
+    bind_then (local_of third limits.entries ports at) _ x e0 (λ local local-is e1.
+    subst (λ r. AreTunnels own limits.flood r.0 × AreLocal limits.entries ports r.1) (ok_is _ x e1)
+    (tunnels_meet own limits.flood at tunnels tunnels-is, local_meets third limits.entries ports some at local local-is)))
 
-rules_meet : (version : Version) (own : Own) (entries ports : ℕ) (some : 1 ≤ entries) (at : Place) (x : TunnelRules × LocalRules) → rules_of version own entries ports at ≡ Ok x → AreTunnels own x.0 × AreLocal entries ports x.1
+rules_meet : (version : Version) (own : Own) (limits : Limits) (ports : ℕ) (some : 1 ≤ limits.entries) (at : Place) (x : TunnelRules × LocalRules) → rules_of version own limits ports at ≡ Ok x → AreTunnels own limits.flood x.0 × AreLocal limits.entries ports x.1
 unfolding rules_of
-rules_meet One own entries ports some at x e =
+rules_meet One own limits ports some at x e =
     bind_then (tunnel_of at) _ x e (λ tunnel tunnel-is e0.
-    bind_then (local_of false entries ports at) _ x e0 (λ local local-is e1.
-    bind_then (flood_of own tunnel.kind at) _ x e1 (λ flood flood-is e2.
-    subst (λ r. AreTunnels own r.0 × AreLocal entries ports r.1) (ok_is _ x e2)
-    (one_meets own at tunnel flood (tunnel_meets at tunnel tunnel-is) flood-is, local_meets false entries ports some at local local-is))))
-rules_meet Two own entries ports some at x e = tables_meet false own entries ports some at x e
-rules_meet Three own entries ports some at x e = tables_meet true own entries ports some at x e
+    bind_then (local_of false limits.entries ports at) _ x e0 (λ local local-is e1.
+    bind_then (flood_of own limits.flood tunnel.kind at) _ x e1 (λ flood flood-is e2.
+    subst (λ r. AreTunnels own limits.flood r.0 × AreLocal limits.entries ports r.1) (ok_is _ x e2)
+    (one_meets own limits.flood at tunnel flood (tunnel_meets at tunnel tunnel-is) flood-is, local_meets false limits.entries ports some at local local-is))))
+rules_meet Two own limits ports some at x e = tables_meet false own limits ports some at x e
+rules_meet Three own limits ports some at x e = tables_meet true own limits ports some at x e
 
-segment_meets : (version : Version) (own : Own) (entries ports : ℕ) (some : 1 ≤ entries) (earlier : List SegmentRule) (at : Place) (s : SegmentRule) → segment_of version own entries ports earlier at ≡ Ok s
-    → IsSegment own ports earlier s × HasEntries entries earlier s
+segment_meets : (version : Version) (own : Own) (limits : Limits) (ports : ℕ) (some : 1 ≤ limits.entries) (earlier : List SegmentRule) (at : Place) (s : SegmentRule) → segment_of version own limits ports earlier at ≡ Ok s
+    → IsSegment own limits.flood ports earlier s × HasEntries limits.entries earlier s
 unfolding segment_of
-segment_meets version own entries ports some earlier at s e =
+segment_meets version own limits ports some earlier at s e =
     bind_then (only at (segment_keys version)) _ s e (λ known known-is e0.
     bind_then (required at (codes "vid") (range 1 4094)) _ s e0 (λ vid vid-is e1.
-    bind_then (rules_of version own entries ports at) _ s e1 (λ rules rules-is e2.
+    bind_then (rules_of version own limits ports at) _ s e1 (λ rules rules-is e2.
     bind_then (refuse_if (is_taken vid rules.0.0 earlier) (TwoSegments (numbered (codes "segment") (length earlier + 1)))) _ s e2 (λ apart apart-is e3.
-    let r = rules_meet version own entries ports some at rules rules-is in
-    subst (λ x. IsSegment own ports earlier x × HasEntries entries earlier x) (ok_is _ s e3) (
+    let r = rules_meet version own limits ports some at rules rules-is in
+    subst (λ x. IsSegment own limits.flood ports earlier x × HasEntries limits.entries earlier x) (ok_is _ s e3) (
       record {
         vid = required_range at (codes "vid") 1 4094 vid vid-is;
         tunnel_count = r.0.tunnel_count;
@@ -397,25 +407,25 @@ segment_meets version own entries ports some earlier at s e =
 -- a number of segments, each by its rules and with its limit within the most, and the sum of their limits within the addresses
 abbrev AreSegments : Limits → Own → ℕ → List SegmentRule → Type 0
 AreSegments limits own ports segments =
-    IsWithin 1 limits.segments (length segments) × EachBehind (IsSegment own ports) [] segments × EachBehind (HasEntries limits.entries) [] segments × (sum_of_limits segments ≤ limits.addresses)
+    IsWithin 1 limits.segments (length segments) × EachBehind (IsSegment own limits.flood ports) [] segments × EachBehind (HasEntries limits.entries) [] segments × (sum_of_limits segments ≤ limits.addresses)
 
 segments_meet : (version : Version) (limits : Limits) (some : 1 ≤ limits.entries) (own : Own) (ports : ℕ) (at : Place) (segments : List SegmentRule) → segments_of version limits own ports at ≡ Ok segments → AreSegments limits own ports segments
 unfolding segments_of
 segments_meet version limits some own ports at segments e =
     bind_then (required_items at (codes "segment") limits.segments) _ segments e (λ tables tables-is e0.
-    bind_then (each (segment_of version own limits.entries ports) (codes "segment") [] tables) _ segments e0 (λ all all-is e1.
+    bind_then (each (segment_of version own limits ports) (codes "segment") [] tables) _ segments e0 (λ all all-is e1.
     bind_then (refuse_if (nat_lt limits.addresses (sum_of_limits all)) (OverLimit (codes "limit"))) _ segments e1 (λ total total-is e2.
-    let means = segment_meets version own limits.entries ports some in
-    let q = from_none (IsSegment own ports) (length tables) all (each_meets (IsSegment own ports) (segment_of version own limits.entries ports) (codes "segment") (λ earlier at s is. (means earlier at s is).0) [] tables all all-is) in
-    let r = from_none (HasEntries limits.entries) (length tables) all (each_meets (HasEntries limits.entries) (segment_of version own limits.entries ports) (codes "segment") (λ earlier at s is. (means earlier at s is).1) [] tables all all-is) in
+    let means = segment_meets version own limits ports some in
+    let q = from_none (IsSegment own limits.flood ports) (length tables) all (each_meets (IsSegment own limits.flood ports) (segment_of version own limits ports) (codes "segment") (λ earlier at s is. (means earlier at s is).0) [] tables all all-is) in
+    let r = from_none (HasEntries limits.entries) (length tables) all (each_meets (HasEntries limits.entries) (segment_of version own limits ports) (codes "segment") (λ earlier at s is. (means earlier at s is).1) [] tables all all-is) in
     let few = required_items_ok at (codes "segment") limits.segments tables tables-is in
     subst (AreSegments limits own ports) (ok_is all segments e2)
     (subst (IsWithin 1 limits.segments) (sym q.1) few, q.0, r.0, ltb-false limits.addresses (sum_of_limits all) (refuse_ok _ _ total total-is)))))
 
 -- segments of which there is one have limits that sum to 1 at least
-some_entries : (own : Own) (ports : ℕ) (segments : List SegmentRule) → 1 ≤ length segments → EachBehind (IsSegment own ports) [] segments → 1 ≤ sum_of_limits segments
-some_entries addrs ports [] some are = absurd (omega (arith, some))
-some_entries addrs ports (s ∷ segments) some are =
+some_entries : (own : Own) (most ports : ℕ) (segments : List SegmentRule) → 1 ≤ length segments → EachBehind (IsSegment own most ports) [] segments → 1 ≤ sum_of_limits segments
+some_entries addrs most ports [] some are = absurd (omega (arith, some))
+some_entries addrs most ports (s ∷ segments) some are =
     let sums : sum_of_limits (s ∷ segments) ≡ s.limit + sum_of_limits segments = sum_by-cons (λ (n : ℕ). n) s.limit (map (λ (r : SegmentRule). r.limit) segments) in
     omega (arith, sums, are.0.limit)
 
@@ -448,13 +458,13 @@ settings_meet members s e =
     let few = required_items_ok (top members) (codes "port") limits.ports tables tables-is in
     let q = segments_meet version limits are.entries.0 (own underlay) (length ports) (top members) segments segments-is in
     let below-most : IfSome given (IsWithin 1 limits.addresses) = subst (λ (m : Meaning Limits). IfSome given (IsWithin 1 (addresses_in m))) limits-is (given_meets _ (top members) given given-is) in
-    let l = pool_meets limits.addresses given segments pool pool-is below-most (some_entries (own underlay) (length ports) segments q.0.0 q.1, q.3) in
+    let l = pool_meets limits.addresses given segments pool pool-is below-most (some_entries (own underlay) limits.flood (length ports) segments q.0.0 q.1, q.3) in
     subst MeetsRules (ok_is _ s e6) (record {
       underlay = u.0;
       port_count = subst (λ (l : Limits). IsWithin 1 l.ports (length ports)) u.1 (subst (IsWithin 1 limits.ports) (sym p.1) few);
       ports = p.0;
       segment_count = subst (λ (l : Limits). IsWithin 1 l.segments (length segments)) u.1 q.0;
-      segments = q.1;
+      segments = subst (λ (l : Limits). EachBehind (IsSegment (own underlay) l.flood (length ports)) [] segments) u.1 q.1;
       entries = subst (λ (l : Limits). EachBehind (HasEntries l.entries) [] segments) u.1 q.2;
       pool = subst (λ (l : Limits). IsWithin 1 l.addresses pool) u.1 l.0;
       limits = l.1;

@@ -1,24 +1,25 @@
--- Settings that ask for no limit of ports and none of next hops mean what they meant before they could.
-use Rattle.std.proofs.Common.{◌≡◌, ℕ, codes, Bool, true, false, cond, ◌&&◌, nat_le, List, [], ◌∷◌, length, Option, Some, None, option_and_then, Ok, ℤ, pos, negsuc, refl, sym, ap, subst, ◌∙◌, lit≤, arith}
+-- Settings that ask for no limit of ports and none of next hops mean what they meant before they could: until flood lists had a limit
+-- to ask for, and so from then on.
+use Rattle.std.proofs.Common.{◌≡◌, ℕ, codes, Bool, true, false, cond, ◌&&◌, nat_le, List, [], ◌∷◌, Option, Some, None, option_and_then, Ok, ℤ, pos, negsuc, refl, sym, ap, subst, ◌∙◌, arith}
 use Rattle.std.proofs.lemmas.Bool.{and_parts, leb-true, le-leb, false≢true}
 use Rattle.toml.specs.Data.{Data, Members, as_integer, get_member}
 use Rattle.underlay.specs.declared.limits.Limits.{Limits}
-use Rattle.underlay.specs.Settings.{own}
-use Rattle.config_text.specs.Fault.{Meaning, ◌>>=◌}
+use Rattle.config_text.specs.Fault.{Meaning}
 use Rattle.config_text.specs.Column.{in_range, range}
-use Rattle.config_text.specs.Table.{Place, top, path, default_value, defaulted, only, subtable, required_items, each}
+use Rattle.config_text.specs.Table.{Place, top, path, default_value, defaulted, only, subtable, required_items}
 use Rattle.overlay_settings.specs.Settings.{Settings}
 use Rattle.overlay_config.specs.declared.version.Version.{Version}
 use Rattle.overlay_config.specs.declared.version.Version.TheVariants.{One, Two, Three}
 use Rattle.overlay_config.specs.BeforePorts as before
-use Rattle.overlay_config.specs.Limits.{addresses_in, usual_limits, limit_keys, limits_in, limits_of}
-use Rattle.overlay_config.specs.Port.{port_of}
+use Rattle.overlay_config.specs.BeforeFlood.{limit_keys, limits_in, limits_of, settings_of as flood_settings_of}
+use Rattle.overlay_config.specs.Limits.{addresses_in, usual_limits}
 use Rattle.overlay_config.specs.Underlay.{underlay_of}
-use Rattle.overlay_config.specs.Settings.{segments_of, version_of, given_pool_of, pool_for, settings_of}
+use Rattle.overlay_config.specs.Settings.{version_of, given_pool_of, settings_of}
 use Rattle.overlay_config.proofs.Readings.{bind_then, ok_is, when_ok}
 use Rattle.overlay_config.proofs.SegmentKept.{gives, only_known, known_only}
 use Rattle.overlay_config.proofs.Asked.{known_same, unknown_gone}
 use Rattle.overlay_config.proofs.Third.{fits_more}
+use Rattle.overlay_config.proofs.FloodAsked.{flood_same}
 
 -- ---- more addresses
 
@@ -82,9 +83,9 @@ limits_kept Three at l e =
 -- ---- all settings
 
 -- what meant something before means the same
-pub sixteen_same : (ms : Members) (s : Settings) → before.settings_of ms ≡ Ok s → settings_of ms ≡ Ok s
-unfolding before.settings_of settings_of
-sixteen_same ms s e =
+until_flood : (ms : Members) (s : Settings) → before.settings_of ms ≡ Ok s → flood_settings_of ms ≡ Ok s
+unfolding before.settings_of flood_settings_of
+until_flood ms s e =
     let at : Place = top ms in
     bind_then (version_of at) _ s e (λ version version-is e0.
     bind_then (given_pool_of (before.addresses_in (before.limits_of version at)) at) _ s e0 (λ given given-is e1.
@@ -102,3 +103,6 @@ sixteen_same ms s e =
     (gives (subtable at (codes "underlay")) _ below s below-is
     (gives (underlay_of version limits below) _ underlay s underlay-is
     (gives (required_items at (codes "port") limits.ports) _ tables s (subst (λ (n : ℕ). required_items at (codes "port") n ≡ Ok tables) k.1 tables-is) e5)))))))))))
+
+pub sixteen_same : (ms : Members) (s : Settings) → before.settings_of ms ≡ Ok s → settings_of ms ≡ Ok s
+sixteen_same ms s e = flood_same ms s (until_flood ms s e)

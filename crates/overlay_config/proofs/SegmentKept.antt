@@ -1,5 +1,5 @@
 -- A segment of version 1 means the same in version 2.
-use Rattle.std.proofs.Common.{◌≡◌, ℕ, min, codes, Bool, true, false, ◌&&◌, ◌||◌, nat_eq, nat_lt, List, [], ◌∷◌, ◌++◌, length, Option, Some, None, Ok, Err, nat_cmp, is_eq, Ordering, Less, Equal, Greater, refl, sym, ap, subst, ◌∙◌, inl, inr}
+use Rattle.std.proofs.Common.{◌≡◌, ℕ, ◌-◌, min, codes, Bool, true, false, ◌&&◌, ◌||◌, nat_eq, nat_lt, List, [], ◌∷◌, ◌++◌, length, Option, Some, None, Ok, Err, nat_cmp, is_eq, Ordering, Less, Equal, Greater, refl, sym, ap, subst, ◌∙◌, inl, inr, arith}
 use Rattle.std.proofs.lemmas.Bool.{cases_Bool, and_parts, false≢true}
 use Rattle.std.proofs.lemmas.Cmp.{nat_list_cmp_total}
 use Rattle.std.specs.Cmp.{tied_itself}
@@ -12,6 +12,7 @@ use Rattle.flood_lists.specs.declared.own.Own.{Own}
 use Rattle.flood_lists.specs.Flood.{Entries}
 use Rattle.underlay.specs.declared.segment.PeerRule.TheVariants.{Any}
 use Rattle.underlay.specs.declared.segment.TagRule.TheVariants.{Drop}
+use Rattle.underlay.specs.declared.limits.Limits.{Limits}
 use Rattle.underlay.specs.declared.tunnels.SegmentTunnel.{SegmentTunnel}
 use Rattle.underlay.specs.Settings.{own}
 use Rattle.config_text.specs.declared.fault.SettingsFault.{SettingsFault}
@@ -221,11 +222,15 @@ tunnel_as kind vni = record { kind = kind; vni = vni; group = 0 }
 abbrev table_as : Tunnel → ℕ → Entries → TunnelTable
 table_as kind vni flood = record { tunnel = tunnel_as kind vni; flood = flood }
 
-table_kept : (own : Own) (p q : List ℕ) (m : Members) (kind : Tunnel) (vni : ℕ) (flood : Entries)
-    → required (place p m) (codes "vni") vni_number ≡ Ok vni → required (place p m) (codes "tunnel") (one_of tunnel_words) ≡ Ok kind → flood_of own kind (place p m) ≡ Ok flood
-    → tunnel_table_of own [] (place q (tunnel_table m)) ≡ Ok (table_as kind vni flood)
+-- before any remote there is room for all
+no_less : (most : ℕ) → most - 0 ≡ most
+no_less most = omega arith
+
+table_kept : (own : Own) (most : ℕ) (p q : List ℕ) (m : Members) (kind : Tunnel) (vni : ℕ) (flood : Entries)
+    → required (place p m) (codes "vni") vni_number ≡ Ok vni → required (place p m) (codes "tunnel") (one_of tunnel_words) ≡ Ok kind → flood_of own most kind (place p m) ≡ Ok flood
+    → tunnel_table_of own most [] (place q (tunnel_table m)) ≡ Ok (table_as kind vni flood)
 unfolding tunnel_table_of
-table_kept own p q m kind vni flood vni-is kind-is flood-is =
+table_kept own most p q m kind vni flood vni-is kind-is flood-is =
     let at : Place = place q (tunnel_table m) in
     let all : TunnelTable = table_as kind vni flood in
     gives (only at tunnel_keys) _ tt all (known_only at tunnel_keys tt (tunnel_known m))
@@ -234,27 +239,28 @@ table_kept own p q m kind vni flood vni-is kind-is flood-is =
     (gives (required at (codes "vni") vni_number) _ vni all
     (ap (required_value (q ++ codes "vni") vni_number) (vni_there m) ∙ required_at (p ++ codes "vni") (q ++ codes "vni") vni_number (get_member (codes "vni") m) vni vni-is)
     (gives (defaulted at (codes "group") group_number 0) _ 0 all (ap (default_value (q ++ codes "group") group_number 0) (group_absent m))
-    (gives (listed at (codes "flood") 16 (put_remote own kind) []) _ flood all
-    (ap (λ o. listed_in (q ++ codes "flood") o 16 (put_remote own kind) []) (flood_there m) ∙ listed_at (p ++ codes "flood") (q ++ codes "flood") (get_member (codes "flood") m) 16 (put_remote own kind) [] flood flood-is)
+    (gives (listed at (codes "flood") (most - 0) (put_remote own most kind) []) _ flood all
+    (ap (λ n. listed at (codes "flood") n (put_remote own most kind) []) (no_less most)
+    ∙ ap (λ o. listed_in (q ++ codes "flood") o most (put_remote own most kind) []) (flood_there m) ∙ listed_at (p ++ codes "flood") (q ++ codes "flood") (get_member (codes "flood") m) most (put_remote own most kind) [] flood flood-is)
     refl))))
 
 -- the list under a key, of so many items at most and of one at least
 abbrev pub required_from : List ℕ → ℕ → Option Data → Meaning (List Data)
 required_from p limit o = (items_value p o >>= limited p limit) >>= some_items p
 
-tunnels_kept : (own : Own) (p : List ℕ) (m : Members) (kind : Tunnel) (vni : ℕ) (flood : Entries)
-    → required (place p m) (codes "vni") vni_number ≡ Ok vni → required (place p m) (codes "tunnel") (one_of tunnel_words) ≡ Ok kind → flood_of own kind (place p m) ≡ Ok flood
-    → tunnels_of own (place p (migrated_segment m)) ≡ Ok (tunnel_as kind vni ∷ [], flood)
+tunnels_kept : (own : Own) (most : ℕ) (p : List ℕ) (m : Members) (kind : Tunnel) (vni : ℕ) (flood : Entries)
+    → required (place p m) (codes "vni") vni_number ≡ Ok vni → required (place p m) (codes "tunnel") (one_of tunnel_words) ≡ Ok kind → flood_of own most kind (place p m) ≡ Ok flood
+    → tunnels_of own most (place p (migrated_segment m)) ≡ Ok (tunnel_as kind vni ∷ [], flood)
 unfolding tunnels_of
-tunnels_kept own p m kind vni flood vni-is kind-is flood-is =
+tunnels_kept own most p m kind vni flood vni-is kind-is flood-is =
     let at : Place = place p (migrated_segment m) in
     let name : List ℕ = path at (codes "tunnel") in
     let q : List ℕ = numbered name 1 ++ codes "." in
     let t : TunnelTable = table_as kind vni flood in
     gives (required_items at (codes "tunnel") 2) _ (table (tunnel_table m) ∷ []) (tunnel_as kind vni ∷ [], flood)
     (ap (required_from (p ++ codes "tunnel") 2) (get_here (codes "tunnel") (one_tunnel m) (less_flood m)))
-    (gives (each (tunnel_table_of own) name [] (table (tunnel_table m) ∷ [])) _ (t ∷ []) (tunnel_as kind vni ∷ [], flood)
-    (gives (tunnel_table_of own [] (place q (tunnel_table m))) (λ x. Ok (x ∷ [])) t (t ∷ []) (table_kept own p q m kind vni flood vni-is kind-is flood-is) refl)
+    (gives (each (tunnel_table_of own most) name [] (table (tunnel_table m) ∷ [])) _ (t ∷ []) (tunnel_as kind vni ∷ [], flood)
+    (gives (tunnel_table_of own most [] (place q (tunnel_table m))) (λ x. Ok (x ∷ [])) t (t ∷ []) (table_kept own most p q m kind vni flood vni-is kind-is flood-is) refl)
     refl)
 
 -- keys that stay read the same
@@ -287,30 +293,30 @@ local_kept entries ports p m =
     same_bind (members_of at (codes "untagged") ports []) (members_of old (codes "untagged") ports []) _ _ (members_kept p m (codes "untagged") ports [] (segment_key (codes "untagged") m refl refl refl)) (λ untagged.
     same_bind (members_of at (codes "tagged") ports untagged) (members_of old (codes "tagged") ports untagged) _ _ (members_kept p m (codes "tagged") ports untagged (segment_key (codes "tagged") m refl refl refl)) (λ tagged. refl)))
 
-rules_kept : (own : Own) (entries ports : ℕ) (p : List ℕ) (m : Members) (rules : TunnelRules × LocalRules) → rules_of One own entries ports (place p m) ≡ Ok rules → rules_of Two own entries ports (place p (migrated_segment m)) ≡ Ok rules
+rules_kept : (own : Own) (limits : Limits) (ports : ℕ) (p : List ℕ) (m : Members) (rules : TunnelRules × LocalRules) → rules_of One own limits ports (place p m) ≡ Ok rules → rules_of Two own limits ports (place p (migrated_segment m)) ≡ Ok rules
 unfolding rules_of tunnel_of
-rules_kept own entries ports p m rules e =
+rules_kept own limits ports p m rules e =
     let old : Place = place p m in
     let at : Place = place p (migrated_segment m) in
     bind_then (tunnel_of old) _ rules e (λ tunnel tunnel-is e0.
     bind_then (required old (codes "vni") vni_number) _ tunnel tunnel-is (λ vni vni-is t0.
     bind_then (required old (codes "tunnel") (one_of tunnel_words)) _ tunnel t0 (λ kind kind-is t1.
-    bind_then (local_of false entries ports old) _ rules e0 (λ local local-is e1.
-    bind_then (flood_of own tunnel.kind old) _ rules e1 (λ flood flood-is e2.
+    bind_then (local_of false limits.entries ports old) _ rules e0 (λ local local-is e1.
+    bind_then (flood_of own limits.flood tunnel.kind old) _ rules e1 (λ flood flood-is e2.
     let is : tunnel_as kind vni ≡ tunnel = ok_is (tunnel_as kind vni) tunnel t1 in
-    let flood-of : flood_of own kind old ≡ Ok flood = subst (λ t. flood_of own t.kind old ≡ Ok flood) (sym is) flood-is in
-    gives (tunnels_of own at) _ (tunnel_as kind vni ∷ [], flood) rules (tunnels_kept own p m kind vni flood vni-is kind-is flood-of)
-    (gives (local_of false entries ports at) _ local rules (local_kept entries ports p m ∙ local-is)
+    let flood-of : flood_of own limits.flood kind old ≡ Ok flood = subst (λ t. flood_of own limits.flood t.kind old ≡ Ok flood) (sym is) flood-is in
+    gives (tunnels_of own limits.flood at) _ (tunnel_as kind vni ∷ [], flood) rules (tunnels_kept own limits.flood p m kind vni flood vni-is kind-is flood-of)
+    (gives (local_of false limits.entries ports at) _ local rules (local_kept limits.entries ports p m ∙ local-is)
     (ap (λ t. Ok ((t ∷ [], flood), local)) is ∙ e2)))))))
 
-pub segment_kept : (own : Own) (entries ports : ℕ) (earlier : List SegmentRule) (p : List ℕ) (m : Members) (x : SegmentRule) → segment_of One own entries ports earlier (place p m) ≡ Ok x → segment_of Two own entries ports earlier (place p (migrated_segment m)) ≡ Ok x
+pub segment_kept : (own : Own) (limits : Limits) (ports : ℕ) (earlier : List SegmentRule) (p : List ℕ) (m : Members) (x : SegmentRule) → segment_of One own limits ports earlier (place p m) ≡ Ok x → segment_of Two own limits ports earlier (place p (migrated_segment m)) ≡ Ok x
 unfolding segment_of
-segment_kept own entries ports earlier p m x e =
+segment_kept own limits ports earlier p m x e =
     let old : Place = place p m in
     let at : Place = place p (migrated_segment m) in
     bind_then (only old (segment_keys One)) _ x e (λ known known-is e0.
     bind_then (required old (codes "vid") (range 1 4094)) _ x e0 (λ vid vid-is e1.
-    bind_then (rules_of One own entries ports old) _ x e1 (λ rules rules-is e2.
+    bind_then (rules_of One own limits ports old) _ x e1 (λ rules rules-is e2.
     gives (only at (segment_keys Two)) _ known x (known_only at (segment_keys Two) known (segment_known m (only_known old (segment_keys One) known known-is)))
     (gives (required at (codes "vid") (range 1 4094)) _ vid x (ap (required_value (p ++ codes "vid") (range 1 4094)) (segment_key (codes "vid") m refl refl refl) ∙ vid-is)
-    (gives (rules_of Two own entries ports at) _ rules x (rules_kept own entries ports p m rules rules-is) e2)))))
+    (gives (rules_of Two own limits ports at) _ rules x (rules_kept own limits ports p m rules rules-is) e2)))))

@@ -1,5 +1,5 @@
 -- A segment of version 2 is read the same in version 3, which has one word more.
-use Rattle.std.proofs.Common.{◌≡◌, ℕ, codes, min, Bool, true, false, cond, nat_eq, nat_lt, List, [], ◌∷◌, ◌++◌, length, ◌+◌, Option, Some, None, option_and_then, Ok, Err, refl, ap, ◌∙◌}
+use Rattle.std.proofs.Common.{◌≡◌, ℕ, codes, min, Bool, true, false, cond, nat_eq, nat_lt, List, [], ◌∷◌, ◌++◌, length, ◌+◌, Option, Some, None, option_and_then, Ok, refl, ap, ◌∙◌}
 use Rattle.std.specs.Cmp.Lexicographic.{pointwise}
 use Rattle.toml.specs.Data.{Data, get_member, as_str}
 use Rattle.flood_lists.specs.declared.own.Own.{Own}
@@ -18,7 +18,7 @@ use Rattle.overlay_config.specs.declared.local_rules.LocalRules.{LocalRules}
 use Rattle.overlay_config.specs.declared.version.Version.{Version}
 use Rattle.overlay_config.specs.declared.version.Version.TheVariants.{Two, Three}
 use Rattle.overlay_config.specs.CommonRules.{peer_words, tag_words, tags_of, common_of}
-use Rattle.overlay_config.specs.LocalRules.{local_of, members_of}
+use Rattle.overlay_config.specs.LocalRules.{local_of}
 use Rattle.overlay_config.specs.Segment.{segment_keys, tables_of, rules_of, segment_of}
 use Rattle.overlay_config.specs.Tunnel.{TunnelRules, tunnels_of}
 use Rattle.overlay_config.proofs.Readings.{bind_then}
@@ -71,44 +71,44 @@ local_third entries ports at x e =
     bind_then (common_of false (min 256 entries) (range 1 entries) (range 10 1000000) at) _ x e (λ common common-is e0.
     gives (common_of true (min 256 entries) (range 1 entries) (range 10 1000000) at) _ common x (common_third (min 256 entries) (range 1 entries) (range 10 1000000) at common common-is) e0)
 
-tables_third : (own : Own) (entries ports : ℕ) (at : Place) (x : TunnelRules × LocalRules) → tables_of false own entries ports at ≡ Ok x → tables_of true own entries ports at ≡ Ok x
-tables_third own entries ports at x e =
-    bind_then (tunnels_of own at) _ x e (λ tunnels tunnels-is e0.
-    bind_then (local_of false entries ports at) _ x e0 (λ local local-is e1.
-    gives (tunnels_of own at) _ tunnels x tunnels-is
-    (gives (local_of true entries ports at) _ local x (local_third entries ports at local local-is) e1)))
+tables_third : (own : Own) (limits : Limits) (ports : ℕ) (at : Place) (x : TunnelRules × LocalRules) → tables_of false own limits ports at ≡ Ok x → tables_of true own limits ports at ≡ Ok x
+tables_third own limits ports at x e =
+    bind_then (tunnels_of own limits.flood at) _ x e (λ tunnels tunnels-is e0.
+    bind_then (local_of false limits.entries ports at) _ x e0 (λ local local-is e1.
+    gives (tunnels_of own limits.flood at) _ tunnels x tunnels-is
+    (gives (local_of true limits.entries ports at) _ local x (local_third limits.entries ports at local local-is) e1)))
 
-rules_third : (own : Own) (entries ports : ℕ) (at : Place) (x : TunnelRules × LocalRules) → rules_of Two own entries ports at ≡ Ok x → rules_of Three own entries ports at ≡ Ok x
+rules_third : (own : Own) (limits : Limits) (ports : ℕ) (at : Place) (x : TunnelRules × LocalRules) → rules_of Two own limits ports at ≡ Ok x → rules_of Three own limits ports at ≡ Ok x
 unfolding rules_of
-rules_third own entries ports at x e = tables_third own entries ports at x e
+rules_third own limits ports at x e = tables_third own limits ports at x e
 
-segment_third : (own : Own) (entries ports : ℕ) (earlier : List SegmentRule) (at : Place) (x : SegmentRule) → segment_of Two own entries ports earlier at ≡ Ok x → segment_of Three own entries ports earlier at ≡ Ok x
+segment_third : (own : Own) (limits : Limits) (ports : ℕ) (earlier : List SegmentRule) (at : Place) (x : SegmentRule) → segment_of Two own limits ports earlier at ≡ Ok x → segment_of Three own limits ports earlier at ≡ Ok x
 unfolding segment_of
-segment_third own entries ports earlier at x e =
+segment_third own limits ports earlier at x e =
     bind_then (only at (segment_keys Two)) _ x e (λ known known-is e0.
     bind_then (required at (codes "vid") (range 1 4094)) _ x e0 (λ vid vid-is e1.
-    bind_then (rules_of Two own entries ports at) _ x e1 (λ rules rules-is e2.
+    bind_then (rules_of Two own limits ports at) _ x e1 (λ rules rules-is e2.
     gives (only at (segment_keys Three)) _ known x known-is
     (gives (required at (codes "vid") (range 1 4094)) _ vid x vid-is
-    (gives (rules_of Three own entries ports at) _ rules x (rules_third own entries ports at rules rules-is) e2)))))
+    (gives (rules_of Three own limits ports at) _ rules x (rules_third own limits ports at rules rules-is) e2)))))
 
-each_third : (own : Own) (entries ports : ℕ) (name : List ℕ) (earlier : List SegmentRule) (ds : List Data) (all : List SegmentRule) → each (segment_of Two own entries ports) name earlier ds ≡ Ok all → each (segment_of Three own entries ports) name earlier ds ≡ Ok all
-each_third own entries ports name earlier [] all e = e
-each_third own entries ports name earlier (d ∷ ds) all e =
+each_third : (own : Own) (limits : Limits) (ports : ℕ) (name : List ℕ) (earlier : List SegmentRule) (ds : List Data) (all : List SegmentRule) → each (segment_of Two own limits ports) name earlier ds ≡ Ok all → each (segment_of Three own limits ports) name earlier ds ≡ Ok all
+each_third own limits ports name earlier [] all e = e
+each_third own limits ports name earlier (d ∷ ds) all e =
     bind_then (row_place name (length earlier + 1) d) _ all e (λ at at-is e0.
-    bind_then (segment_of Two own entries ports earlier at) _ all e0 (λ x x-is e1.
+    bind_then (segment_of Two own limits ports earlier at) _ all e0 (λ x x-is e1.
     gives (row_place name (length earlier + 1) d) _ at all at-is
-    (gives (segment_of Three own entries ports earlier at) _ x all (segment_third own entries ports earlier at x x-is)
-    (each_third own entries ports name (earlier ++ x ∷ []) ds all e1))))
+    (gives (segment_of Three own limits ports earlier at) _ x all (segment_third own limits ports earlier at x x-is)
+    (each_third own limits ports name (earlier ++ x ∷ []) ds all e1))))
 
 abbrev pub segments_from : Version → Limits → Own → ℕ → Option Data → Meaning (List SegmentRule)
 segments_from v limits own ports o =
-    required_from (codes "segment") limits.segments o >>= λ tables. each (segment_of v own limits.entries ports) (codes "segment") [] tables >>= λ segments.
+    required_from (codes "segment") limits.segments o >>= λ tables. each (segment_of v own limits ports) (codes "segment") [] tables >>= λ segments.
     refuse_if (nat_lt limits.addresses (sum_of_limits segments)) (OverLimit (codes "limit")) >>= λ total. Ok segments
 
 pub segments_third : (limits : Limits) (own : Own) (ports : ℕ) (o : Option Data) (all : List SegmentRule) → segments_from Two limits own ports o ≡ Ok all → segments_from Three limits own ports o ≡ Ok all
 segments_third limits own ports o all e =
     bind_then (required_from (codes "segment") limits.segments o) _ all e (λ tables tables-is e0.
-    bind_then (each (segment_of Two own limits.entries ports) (codes "segment") [] tables) _ all e0 (λ segments segments-is e1.
+    bind_then (each (segment_of Two own limits ports) (codes "segment") [] tables) _ all e0 (λ segments segments-is e1.
     gives (required_from (codes "segment") limits.segments o) _ tables all tables-is
-    (gives (each (segment_of Three own limits.entries ports) (codes "segment") [] tables) _ segments all (each_third own limits.entries ports (codes "segment") [] tables segments segments-is) e1)))
+    (gives (each (segment_of Three own limits ports) (codes "segment") [] tables) _ segments all (each_third own limits ports (codes "segment") [] tables segments segments-is) e1)))

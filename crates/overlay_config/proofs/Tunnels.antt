@@ -37,11 +37,11 @@ same_kind_refl Geneve = refl
 abbrev remote : Tunnel → Addr → Remote
 remote kind addr = record { tunnel = kind; addr = addr }
 
-remote_meets : (own : Own) (tunnel : SegmentTunnel) (earlier : Entries) (d : Data) (longer : Entries) → put_remote own tunnel.kind earlier d ≡ Some longer → Longer (IsRemote own (tunnel ∷ [])) earlier longer
-remote_meets own tunnel earlier d longer e =
+remote_meets : (own : Own) (most : ℕ) (tunnel : SegmentTunnel) (earlier : Entries) (d : Data) (longer : Entries) → put_remote own most tunnel.kind earlier d ≡ Some longer → Longer (IsRemote own most (tunnel ∷ [])) earlier longer
+remote_meets own most tunnel earlier d longer e =
     let kind = tunnel.kind in
-    let a = then_some (with_remote own kind earlier) (any_addr d) longer e in
-    let k = when_ok (is_none (first (add_faults own earlier kind a.0))) (earlier ++ remote kind a.0 ∷ []) longer a.2 in
+    let a = then_some (with_remote own most kind earlier) (any_addr d) longer e in
+    let k = when_ok (is_none (first (add_faults own most earlier kind a.0))) (earlier ++ remote kind a.0 ∷ []) longer a.2 in
     record { last = remote kind a.0; is = sym k.1; meets = record { kind = or_left (same_kind kind kind) false (same_kind_refl kind); taken = k.0; is_addr = addr_meets d a.0 a.1 } }
 
 vni_meets : (d : Data) (x : ℕ) → vni_number d ≡ Some x → IsWithin 0 16777215 x
@@ -61,31 +61,31 @@ tunnel_meets at t e =
     subst (IsTunnel []) (ok_is _ t e1) (required_meets (IsWithin 0 16777215) vni_number vni_meets at (codes "vni") vni vni-is, group_zero, refl)))
 
 -- a tunnel behind those before it, with the remotes that its table adds to the flood list
-record IsTable (own : Own) (earlier : List TunnelTable) (t : TunnelTable) : Type 0 where
+record IsTable (own : Own) (most : ℕ) (earlier : List TunnelTable) (t : TunnelTable) : Type 0 where
   vni : IsWithin 0 16777215 t.tunnel.vni
   group : IsWithin 0 255 t.tunnel.group
   kind : IsFalse (list_any (λ e. same_kind e.tunnel.kind t.tunnel.kind) earlier)
   count : ℕ
-  added : Behind (IsRemote own (t.tunnel ∷ [])) (flood_behind earlier) count t.flood
-  room : count ≤ 16 - length (flood_behind earlier)
+  added : Behind (IsRemote own most (t.tunnel ∷ [])) (flood_behind earlier) count t.flood
+  room : count ≤ most - length (flood_behind earlier)
 
-table_meets : (own : Own) (earlier : List TunnelTable) (at : Place) (t : TunnelTable) → tunnel_table_of own earlier at ≡ Ok t → IsTable own earlier t
+table_meets : (own : Own) (most : ℕ) (earlier : List TunnelTable) (at : Place) (t : TunnelTable) → tunnel_table_of own most earlier at ≡ Ok t → IsTable own most earlier t
 unfolding tunnel_table_of
-table_meets own earlier at t e =
+table_meets own most earlier at t e =
     bind_then (only at tunnel_keys) _ t e (λ known known-is e0.
     bind_then (required at (codes "kind") (one_of tunnel_words)) _ t e0 (λ kind kind-is e1.
     bind_then (refuse_if (list_any (λ s. same_kind s.tunnel.kind kind) earlier) (BadValue (path at (codes "kind")))) _ t e1 (λ other other-is e2.
     bind_then (required at (codes "vni") vni_number) _ t e2 (λ vni vni-is e3.
     bind_then (defaulted at (codes "group") group_number 0) _ t e3 (λ group group-is e4.
-    bind_then (listed at (codes "flood") (16 - length (flood_behind earlier)) (put_remote own kind) (flood_behind earlier)) _ t e4 (λ flood flood-is e5.
+    bind_then (listed at (codes "flood") (most - length (flood_behind earlier)) (put_remote own most kind) (flood_behind earlier)) _ t e4 (λ flood flood-is e5.
     let tunnel : SegmentTunnel = record { kind = kind; vni = vni; group = group } in
-    let l = listed_ok at (codes "flood") (16 - length (flood_behind earlier)) (put_remote own kind) (flood_behind earlier) flood flood-is in
-    subst (IsTable own earlier) (ok_is _ t e5) (record {
+    let l = listed_ok at (codes "flood") (most - length (flood_behind earlier)) (put_remote own most kind) (flood_behind earlier) flood flood-is in
+    subst (IsTable own most earlier) (ok_is _ t e5) (record {
       vni = required_meets (IsWithin 0 16777215) vni_number vni_meets at (codes "vni") vni vni-is;
       group = defaulted_meets (IsWithin 0 255) group_number group_meets at (codes "group") 0 group group_zero group-is;
       kind = refuse_ok _ _ other other-is;
       count = length l.0;
-      added = gathered_meets (IsRemote own (tunnel ∷ [])) (put_remote own kind) (remote_meets own tunnel) (flood_behind earlier) l.0 flood l.2;
+      added = gathered_meets (IsRemote own most (tunnel ∷ [])) (put_remote own most kind) (remote_meets own most tunnel) (flood_behind earlier) l.0 flood l.2;
       room = l.1;
     })))))))
 
@@ -110,18 +110,18 @@ second_of_two true b e = refl
 second_of_two false b e = e
 
 -- the remotes of either tunnel are remotes of both
-by_first : (own : Own) (a b : SegmentTunnel) (earlier : Entries) (r : Remote) → IsRemote own (a ∷ []) earlier r → IsRemote own (a ∷ b ∷ []) earlier r
-by_first own a b earlier r is = record { kind = first_of_two (same_kind a.kind r.tunnel) (same_kind b.kind r.tunnel) is.kind; taken = is.taken; is_addr = is.is_addr }
+by_first : (own : Own) (most : ℕ) (a b : SegmentTunnel) (earlier : Entries) (r : Remote) → IsRemote own most (a ∷ []) earlier r → IsRemote own most (a ∷ b ∷ []) earlier r
+by_first own most a b earlier r is = record { kind = first_of_two (same_kind a.kind r.tunnel) (same_kind b.kind r.tunnel) is.kind; taken = is.taken; is_addr = is.is_addr }
 
-by_second : (own : Own) (a b : SegmentTunnel) (earlier : Entries) (r : Remote) → IsRemote own (b ∷ []) earlier r → IsRemote own (a ∷ b ∷ []) earlier r
-by_second own a b earlier r is = record { kind = second_of_two (same_kind a.kind r.tunnel) (same_kind b.kind r.tunnel) is.kind; taken = is.taken; is_addr = is.is_addr }
+by_second : (own : Own) (most : ℕ) (a b : SegmentTunnel) (earlier : Entries) (r : Remote) → IsRemote own most (b ∷ []) earlier r → IsRemote own most (a ∷ b ∷ []) earlier r
+by_second own most a b earlier r is = record { kind = second_of_two (same_kind a.kind r.tunnel) (same_kind b.kind r.tunnel) is.kind; taken = is.taken; is_addr = is.is_addr }
 
 -- the rules of a segment's tunnels and of its flood list
-pub record AreTunnels (own : Own) (x : TunnelRules) : Type 0 where
+pub record AreTunnels (own : Own) (most : ℕ) (x : TunnelRules) : Type 0 where
   pub tunnel_count : IsWithin 1 2 (length x.0)
   pub tunnels : EachBehind IsTunnel [] x.0
-  pub flood_count : length x.1 ≤ 16
-  pub flood : EachBehind (IsRemote own x.0) [] x.1
+  pub flood_count : length x.1 ≤ most
+  pub flood : EachBehind (IsRemote own most x.0) [] x.1
 
 one_of_two : IsWithin 1 2 1
 one_of_two = (lit≤ tt, lit≤ tt)
@@ -130,47 +130,47 @@ two_of_two : IsWithin 1 2 2
 two_of_two = (lit≤ tt, lit≤ tt)
 
 -- of version 1
-pub one_meets : (own : Own) (at : Place) (tunnel : SegmentTunnel) (flood : Entries) → IsTunnel [] tunnel → flood_of own tunnel.kind at ≡ Ok flood → AreTunnels own (tunnel ∷ [], flood)
-one_meets own at tunnel flood is e =
-    let f = listed_meets (IsRemote own (tunnel ∷ [])) (put_remote own tunnel.kind) (remote_meets own tunnel) at (codes "flood") 16 flood e in
+pub one_meets : (own : Own) (most : ℕ) (at : Place) (tunnel : SegmentTunnel) (flood : Entries) → IsTunnel [] tunnel → flood_of own most tunnel.kind at ≡ Ok flood → AreTunnels own most (tunnel ∷ [], flood)
+one_meets own most at tunnel flood is e =
+    let f = listed_meets (IsRemote own most (tunnel ∷ [])) (put_remote own most tunnel.kind) (remote_meets own most tunnel) at (codes "flood") most flood e in
     record { tunnel_count = one_of_two; tunnels = (is, tt); flood_count = f.0; flood = f.1 }
 
 abbrev tunnels_in : List TunnelTable → TunnelRules
 tunnels_in tables = (map (λ t. t.tunnel) tables, flood_behind tables)
 
-tables_meet : (own : Own) (tables : List TunnelTable) → IsWithin 1 2 (length tables) → EachBehind (IsTable own) [] tables → AreTunnels own (tunnels_in tables)
-tables_meet own [] some are = absurd (omega (arith, some.0))
-tables_meet own (a ∷ []) some are =
-    let f = from_none (IsRemote own (a.tunnel ∷ [])) are.0.count a.flood are.0.added in
-    let room : are.0.count ≤ 16 = are.0.room in
+tables_meet : (own : Own) (most : ℕ) (tables : List TunnelTable) → IsWithin 1 2 (length tables) → EachBehind (IsTable own most) [] tables → AreTunnels own most (tunnels_in tables)
+tables_meet own most [] some are = absurd (omega (arith, some.0))
+tables_meet own most (a ∷ []) some are =
+    let f = from_none (IsRemote own most (a.tunnel ∷ [])) are.0.count a.flood are.0.added in
+    let room : are.0.count ≤ most = omega (arith, are.0.room) in
     record { tunnel_count = one_of_two; tunnels = ((are.0.vni, are.0.group, refl), tt); flood_count = omega (arith, f.1, room); flood = f.0 }
-tables_meet own (a ∷ b ∷ []) some are =
+tables_meet own most (a ∷ b ∷ []) some are =
     let one = are.0 in
     let two = are.1.0 in
-    let f = from_none (IsRemote own (a.tunnel ∷ [])) one.count a.flood one.added in
-    let room : one.count ≤ 16 = one.room in
-    let more : two.count ≤ 16 - length a.flood = two.room in
+    let f = from_none (IsRemote own most (a.tunnel ∷ [])) one.count a.flood one.added in
+    let room : one.count ≤ most = omega (arith, one.room) in
+    let more : two.count ≤ most - length a.flood = two.room in
     let both = a.tunnel ∷ b.tunnel ∷ [] in
-    let front : EachBehind (IsRemote own both) [] a.flood = each_so (IsRemote own (a.tunnel ∷ [])) (IsRemote own both) (by_first own a.tunnel b.tunnel) [] a.flood f.0 in
-    let back : EachBehind (IsRemote own both) a.flood two.added.list = each_so (IsRemote own (b.tunnel ∷ [])) (IsRemote own both) (by_second own a.tunnel b.tunnel) a.flood two.added.list two.added.meets in
+    let front : EachBehind (IsRemote own most both) [] a.flood = each_so (IsRemote own most (a.tunnel ∷ [])) (IsRemote own most both) (by_first own most a.tunnel b.tunnel) [] a.flood f.0 in
+    let back : EachBehind (IsRemote own most both) a.flood two.added.list = each_so (IsRemote own most (b.tunnel ∷ [])) (IsRemote own most both) (by_second own most a.tunnel b.tunnel) a.flood two.added.list two.added.meets in
     let is : b.flood ≡ a.flood ++ two.added.list = two.added.is in
     record {
       tunnel_count = two_of_two;
       tunnels = ((one.vni, one.group, refl), ((two.vni, two.group, two.kind), tt));
       flood_count = omega (arith, f.1, room, more, ap length is, length-append a.flood two.added.list, two.added.same_count);
-      flood = subst (EachBehind (IsRemote own both) []) (sym is) (each_append (IsRemote own both) [] a.flood two.added.list front back);
+      flood = subst (EachBehind (IsRemote own most both) []) (sym is) (each_append (IsRemote own most both) [] a.flood two.added.list front back);
     }
-tables_meet own (a ∷ b ∷ c ∷ tables) some are = absurd (omega (arith, some.1))
+tables_meet own most (a ∷ b ∷ c ∷ tables) some are = absurd (omega (arith, some.1))
 
 -- of version 2
-pub tunnels_meet : (own : Own) (at : Place) (x : TunnelRules) → tunnels_of own at ≡ Ok x → AreTunnels own x
+pub tunnels_meet : (own : Own) (most : ℕ) (at : Place) (x : TunnelRules) → tunnels_of own most at ≡ Ok x → AreTunnels own most x
 unfolding tunnels_of
-tunnels_meet own at x e =
+tunnels_meet own most at x e =
     bind_then (required_items at (codes "tunnel") 2) _ x e (λ items items-is e0.
-    bind_then (each (tunnel_table_of own) (path at (codes "tunnel")) [] items) _ x e0 (λ tables tables-is e1.
-    let q = from_none (IsTable own) (length items) tables (each_meets (IsTable own) (tunnel_table_of own) (path at (codes "tunnel")) (table_meets own) [] items tables tables-is) in
+    bind_then (each (tunnel_table_of own most) (path at (codes "tunnel")) [] items) _ x e0 (λ tables tables-is e1.
+    let q = from_none (IsTable own most) (length items) tables (each_meets (IsTable own most) (tunnel_table_of own most) (path at (codes "tunnel")) (table_meets own most) [] items tables tables-is) in
     let few = required_items_ok at (codes "tunnel") 2 items items-is in
-    subst (AreTunnels own) (ok_is _ x e1) (tables_meet own tables (subst (IsWithin 1 2) (sym q.1) few) q.0)))
+    subst (AreTunnels own most) (ok_is _ x e1) (tables_meet own most tables (subst (IsWithin 1 2) (sym q.1) few) q.0)))
 
 -- ---- the list of tables
 
@@ -192,12 +192,12 @@ two_of f (a ∷ b ∷ []) x y some few is next =
 two_of f (a ∷ b ∷ c ∷ l) x y some few is next = absurd (omega (arith, few))
 
 -- what two tables mean, in a list of this name
-pub two_items : (own : Own) (at : Place) (items : List Data) (d e : Data) (a b : TunnelTable) (m n : List ℕ) → m ≡ path at (codes "tunnel") → n ≡ path at (codes "tunnel")
+pub two_items : (own : Own) (most : ℕ) (at : Place) (items : List Data) (d e : Data) (a b : TunnelTable) (m n : List ℕ) → m ≡ path at (codes "tunnel") → n ≡ path at (codes "tunnel")
     → limited_items at (codes "tunnel") 2 ≡ Ok items → items ≡ d ∷ e ∷ []
-    → tunnel_item_of own [] m 1 d ≡ Ok a → tunnel_item_of own (a ∷ []) n 2 e ≡ Ok b → tunnels_of own at ≡ Ok (a.tunnel ∷ b.tunnel ∷ [], b.flood)
+    → tunnel_item_of own most [] m 1 d ≡ Ok a → tunnel_item_of own most (a ∷ []) n 2 e ≡ Ok b → tunnels_of own most at ≡ Ok (a.tunnel ∷ b.tunnel ∷ [], b.flood)
 unfolding tunnels_of
-two_items own at items d e a b m n m-is n-is all is one two =
+two_items own most at items d e a b m n m-is n-is all is one two =
     let name = path at (codes "tunnel") in
-    let p = bind_ok (row_place name 1 d) (tunnel_table_of own []) a (subst (λ l. tunnel_item_of own [] l 1 d ≡ Ok a) m-is one) in
-    let q = bind_ok (row_place name 2 e) (tunnel_table_of own (a ∷ [])) b (subst (λ l. tunnel_item_of own (a ∷ []) l 2 e ≡ Ok b) n-is two) in
+    let p = bind_ok (row_place name 1 d) (tunnel_table_of own most []) a (subst (λ l. tunnel_item_of own most [] l 1 d ≡ Ok a) m-is one) in
+    let q = bind_ok (row_place name 2 e) (tunnel_table_of own most (a ∷ [])) b (subst (λ l. tunnel_item_of own most (a ∷ []) l 2 e ≡ Ok b) n-is two) in
     rw (all, is, p.1, p.2, q.1, q.2) refl

@@ -1,9 +1,10 @@
--- What settings meant before limits could be asked for: of each version at most 16 ports, 256 segments and 64 next hops, at most
--- 8,192 entries of a segment and 65,536 of all, and no key `limits`. And what changes meant before they could have a version: at
--- most 10,000, and no other key. It states no standard.
+-- What settings meant before limits could be asked for: of each version at most 16 ports, 256 segments, 16 remotes of a segment and 64
+-- next hops, at most 8,192 entries of a segment and 65,536 of all, and no key `limits`. And what changes meant before they could have a
+-- version: at most 10,000, and no other key. It states no standard.
 use Rattle.std.specs.Prelude.{ℕ, nat_lt, List, [], ◌∷◌, length, Ok, codes}
 use Rattle.toml.specs.Data.{Members}
 use Rattle.flood_lists.specs.declared.own.Own.{Own}
+use Rattle.underlay.specs.declared.limits.Limits.{Limits}
 use Rattle.underlay.specs.Settings.{own}
 use Rattle.config_text.specs.declared.fault.SettingsFault.TheVariants.{OverLimit}
 use Rattle.config_text.specs.Fault.{Meaning, ◌>>=◌}
@@ -23,11 +24,15 @@ use Rattle.overlay_config.specs.Version.{Version, version_named}
 abbrev pub top_keys : List (List ℕ)
 top_keys = codes "version" ∷ codes "pool" ∷ codes "underlay" ∷ codes "port" ∷ codes "segment" ∷ []
 
+-- the limits of all settings
+abbrev pub limits : Limits
+limits = record { ports = 16; segments = 256; flood = 16; hops = 64; entries = 8192; addresses = 65536 }
+
 -- beside the endpoint's own addresses and the number of its ports
 unfoldable pub segments_of : Version → Own → ℕ → Place → Meaning (List SegmentRule)
 segments_of version own ports at = do
   tables ← required_items at (codes "segment") 256
-  segments ← each (segment_of version own 8192 ports) (codes "segment") [] tables
+  segments ← each (segment_of version own limits ports) (codes "segment") [] tables
   total ← refuse_if (nat_lt 65536 (sum_of_limits segments)) (OverLimit (codes "limit"))
   Ok segments
 
@@ -44,7 +49,7 @@ settings_of members = do
   version ← version_of (top members)
   given ← given_pool_of 65536 (top members)
   below ← subtable (top members) (codes "underlay")
-  underlay ← underlay_of version (record { ports = 16; segments = 256; hops = 64; entries = 8192; addresses = 65536 }) below
+  underlay ← underlay_of version limits below
   tables ← required_items (top members) (codes "port") 16
   ports ← each (λ earlier at. port_of at) (codes "port") [] tables
   segments ← segments_of version (own underlay) (length ports) (top members)

@@ -1,5 +1,6 @@
 -- What settings meant before the numbers of ports and of next hops were limits that could be asked for: 16 ports and 64 next hops at
--- most in each version, three keys of the table `limits`, and at most 262,144 addresses. It states no standard.
+-- most in each version, and 16 remotes of a segment; three keys of the table `limits`, and at most 262,144 addresses. It states no
+-- standard.
 use Rattle.std.specs.Prelude.{ℕ, List, [], ◌∷◌, length, Ok, Err, codes}
 use Rattle.toml.specs.Data.{Members}
 use Rattle.underlay.specs.declared.limits.Limits.{Limits}
@@ -26,7 +27,7 @@ limits_in at = do
   segments ← defaulted at (codes "segments") (range 1 4094) 256
   entries ← defaulted at (codes "entries") (range 1 131072) 8192
   addresses ← defaulted at (codes "addresses") (range 1 262144) 65536
-  Ok (record { ports = 16; segments = segments; hops = 64; entries = entries; addresses = addresses })
+  Ok (record { ports = 16; segments = segments; flood = 16; hops = 64; entries = entries; addresses = addresses })
 
 -- the limits in force, from what stands at the top
 abbrev pub limits_of : Version → Place → Meaning Limits

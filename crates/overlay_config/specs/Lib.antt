@@ -14,4 +14,5 @@ pub mod Settings
 pub mod Change
 pub mod Before
 pub mod BeforePorts
+pub mod BeforeFlood
 pub mod Migrate

@@ -1,30 +1,35 @@
 -- The limits of settings: how much of each kind an endpoint has room for. It states no standard.
-use Rattle.std.specs.Prelude.{ℕ, List, [], ◌∷◌, Ok, Err, codes}
+use Rattle.std.specs.Prelude.{ℕ, ◌*◌, nat_lt, List, [], ◌∷◌, Ok, Err, codes}
 use Rattle.underlay.specs.declared.limits.Limits.{Limits}
+use Rattle.config_text.specs.declared.fault.SettingsFault.TheVariants.{OverLimit}
 use Rattle.config_text.specs.Fault.{Meaning, ◌>>=◌}
 use Rattle.config_text.specs.Column.{range}
-use Rattle.config_text.specs.Table.{Place, only, defaulted, subtable}
+use Rattle.config_text.specs.Table.{Place, path, only, defaulted, subtable, refuse_if}
 use Rattle.overlay_config.specs.declared.version.Version.{Version}
 use Rattle.overlay_config.specs.declared.version.Version.TheVariants.{One, Two, Three}
 
 -- the limits where nothing else is asked for, which versions before the third always have
 abbrev pub usual_limits : Limits
-usual_limits = record { ports = 16; segments = 256; hops = 64; entries = 8192; addresses = 65536 }
+usual_limits = record { ports = 16; segments = 256; flood = 16; hops = 64; entries = 8192; addresses = 65536 }
 
 -- the keys of the table `limits`
 abbrev pub limit_keys : List (List ℕ)
-limit_keys = codes "ports" ∷ codes "segments" ∷ codes "hops" ∷ codes "entries" ∷ codes "addresses" ∷ []
+limit_keys =
+    codes "ports" ∷ codes "segments" ∷ codes "flood" ∷ codes "hops" ∷ codes "entries" ∷ codes "addresses" ∷ []
 
--- what the table means: a key that is absent stands for the usual limit
+-- what the table means: a key that is absent stands for the usual limit; all segments together have so many remotes at most, where each
+-- has as many as it may
 unfoldable pub limits_in : Place → Meaning Limits
 limits_in at = do
   known ← only at limit_keys
   ports ← defaulted at (codes "ports") (range 1 255) 16
   segments ← defaulted at (codes "segments") (range 1 4094) 256
+  flood ← defaulted at (codes "flood") (range 1 512) 16
   hops ← defaulted at (codes "hops") (range 1 4096) 64
   entries ← defaulted at (codes "entries") (range 1 131072) 8192
   addresses ← defaulted at (codes "addresses") (range 1 1048576) 65536
-  Ok (record { ports = ports; segments = segments; hops = hops; entries = entries; addresses = addresses })
+  few ← refuse_if (nat_lt 1048576 (segments * flood)) (OverLimit (path at (codes "flood")))
+  Ok (record { ports = ports; segments = segments; flood = flood; hops = hops; entries = entries; addresses = addresses })
 
 -- the limits in force, from what stands at the top; an absent table counts as empty
 abbrev pub limits_of : Version → Place → Meaning Limits

@@ -2,6 +2,7 @@
 use Rattle.std.specs.Prelude.{ℕ, List, [], ◌∷◌, ◌++◌, ◌+◌, length, Bool, true, false, ◌||◌, ◌==◌, Ok, codes}
 use Rattle.std.specs.List.{list_any}
 use Rattle.flood_lists.specs.declared.own.Own.{Own}
+use Rattle.underlay.specs.declared.limits.Limits.{Limits}
 use Rattle.underlay.specs.declared.tunnels.SegmentTunnel.{SegmentTunnel}
 use Rattle.underlay.specs.Overlay as overlay
 use Rattle.overlay_settings.specs.declared.segment.SegmentRule.{SegmentRule}
@@ -36,27 +37,27 @@ segment_keys Two = codes "vid" ∷ codes "tunnel" ∷ local_keys
 segment_keys Three = codes "vid" ∷ codes "tunnel" ∷ local_keys
 
 -- the keys behind `vid` where each tunnel has a table of its own, in version 3 or 2
-abbrev pub tables_of : Bool → Own → ℕ → ℕ → Place → Meaning (TunnelRules × LocalRules)
-tables_of third own entries ports at = do
-  tunnels ← tunnels_of own at
-  local ← local_of third entries ports at
+abbrev pub tables_of : Bool → Own → Limits → ℕ → Place → Meaning (TunnelRules × LocalRules)
+tables_of third own limits ports at = do
+  tunnels ← tunnels_of own limits.flood at
+  local ← local_of third limits.entries ports at
   Ok (tunnels, local)
 
 -- the keys behind `vid`: the tunnels with the flood list, and the rules that say nothing of them
-unfoldable pub rules_of : Version → Own → ℕ → ℕ → Place → Meaning (TunnelRules × LocalRules)
-rules_of One own entries ports at = do
+unfoldable pub rules_of : Version → Own → Limits → ℕ → Place → Meaning (TunnelRules × LocalRules)
+rules_of One own limits ports at = do
   tunnel ← tunnel_of at
-  local ← local_of false entries ports at
-  flood ← flood_of own tunnel.kind at
+  local ← local_of false limits.entries ports at
+  flood ← flood_of own limits.flood tunnel.kind at
   Ok ((tunnel ∷ [], flood), local)
-rules_of Two own entries ports at = tables_of false own entries ports at
-rules_of Three own entries ports at = tables_of true own entries ports at
+rules_of Two own limits ports at = tables_of false own limits ports at
+rules_of Three own limits ports at = tables_of true own limits ports at
 
--- beside the endpoint's own addresses, the most entries of a segment, the number of the ports, and the segments before this one
-unfoldable pub segment_of : Version → Own → ℕ → ℕ → List SegmentRule → Place → Meaning SegmentRule
-segment_of version own entries ports earlier at = do
+-- beside the endpoint's own addresses, the limits in force, the number of the ports, and the segments before this one
+unfoldable pub segment_of : Version → Own → Limits → ℕ → List SegmentRule → Place → Meaning SegmentRule
+segment_of version own limits ports earlier at = do
   known ← only at (segment_keys version)
   vid ← required at (codes "vid") (range 1 4094)
-  rules ← rules_of version own entries ports at
+  rules ← rules_of version own limits ports at
   apart ← refuse_if (is_taken vid rules.0.0 earlier) (TwoSegments (numbered (codes "segment") (length earlier + 1)))
   Ok (with_tunnels vid rules.0.0 rules.0.1 rules.1)

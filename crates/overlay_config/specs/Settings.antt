@@ -36,7 +36,7 @@ top_keys third = codes "version" ∷ codes "pool" ∷ key_added third ++ codes "
 unfoldable pub segments_of : Version → Limits → Own → ℕ → Place → Meaning (List SegmentRule)
 segments_of version limits own ports at = do
   tables ← required_items at (codes "segment") limits.segments
-  segments ← each (segment_of version own limits.entries ports) (codes "segment") [] tables
+  segments ← each (segment_of version own limits ports) (codes "segment") [] tables
   total ← refuse_if (nat_lt limits.addresses (sum_of_limits segments)) (OverLimit (codes "limit"))
   Ok segments
 

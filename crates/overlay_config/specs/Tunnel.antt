@@ -42,9 +42,9 @@ tunnel_of at = do
   kind ← required at (codes "tunnel") (one_of tunnel_words)
   Ok (record { kind = kind; vni = vni; group = 0 })
 
--- the flood list, beside the endpoint's own addresses and the kind of the tunnel
-abbrev pub flood_of : Own → Tunnel → Place → Meaning Entries
-flood_of own kind at = listed at (codes "flood") 16 (put_remote own kind) []
+-- the flood list, beside the endpoint's own addresses, the most remotes and the kind of the tunnel
+abbrev pub flood_of : Own → ℕ → Tunnel → Place → Meaning Entries
+flood_of own most kind at = listed at (codes "flood") most (put_remote own most kind) []
 
 -- ---- version 2
 
@@ -56,24 +56,24 @@ tunnel_keys = codes "kind" ∷ codes "vni" ∷ codes "group" ∷ codes "flood" �
 abbrev pub flood_behind : List TunnelTable → Entries
 flood_behind earlier = option_map_or (λ t. t.flood) (slice_get earlier (length earlier - 1)) []
 
--- a tunnel of a kind that no table before this one has, and the flood list up to it, which has 16 remotes at most
-unfoldable pub tunnel_table_of : Own → List TunnelTable → Place → Meaning TunnelTable
-tunnel_table_of own earlier at = do
+-- a tunnel of a kind that no table before this one has, and the flood list up to it, which has so many remotes at most
+unfoldable pub tunnel_table_of : Own → ℕ → List TunnelTable → Place → Meaning TunnelTable
+tunnel_table_of own most earlier at = do
   known ← only at tunnel_keys
   kind ← required at (codes "kind") (one_of tunnel_words)
   other ← refuse_if (list_any (λ t. same_kind t.tunnel.kind kind) earlier) (BadValue (path at (codes "kind")))
   vni ← required at (codes "vni") vni_number
   group ← defaulted at (codes "group") group_number 0
-  flood ← listed at (codes "flood") (16 - length (flood_behind earlier)) (put_remote own kind) (flood_behind earlier)
+  flood ← listed at (codes "flood") (most - length (flood_behind earlier)) (put_remote own most kind) (flood_behind earlier)
   Ok (record { tunnel = record { kind = kind; vni = vni; group = group }; flood = flood })
 
 -- the table of a number in a list of this name
-abbrev pub tunnel_item_of : Own → List TunnelTable → List ℕ → ℕ → Data → Meaning TunnelTable
-tunnel_item_of own earlier name k d = row_place name k d >>= tunnel_table_of own earlier
+abbrev pub tunnel_item_of : Own → ℕ → List TunnelTable → List ℕ → ℕ → Data → Meaning TunnelTable
+tunnel_item_of own most earlier name k d = row_place name k d >>= tunnel_table_of own most earlier
 
 -- the one or two tunnels in order, and the flood list, the first tunnel's remotes before the second's
-unfoldable pub tunnels_of : Own → Place → Meaning TunnelRules
-tunnels_of own at = do
+unfoldable pub tunnels_of : Own → ℕ → Place → Meaning TunnelRules
+tunnels_of own most at = do
   items ← required_items at (codes "tunnel") 2
-  tables ← each (tunnel_table_of own) (path at (codes "tunnel")) [] items
+  tables ← each (tunnel_table_of own most) (path at (codes "tunnel")) [] items
   Ok (map (λ t. t.tunnel) tables, flood_behind tables)

@@ -6,6 +6,7 @@ ghost use Rattle.overlay_settings.specs.declared.change.TimedChange.{TimedChange
 ghost use Rattle.toml.specs.Data.{Members, get_member, integer};
 ghost use Rattle.config_text.specs.Table.{top};
 ghost use Rattle.overlay_config.specs.Before as before;
+ghost use Rattle.overlay_config.specs.BeforeFlood as before_flood;
 ghost use Rattle.overlay_config.specs.BeforePorts as before_ports;
 ghost use Rattle.overlay_config.specs.Change.{changes_of};
 ghost use Rattle.overlay_config.specs.declared.version.Version.TheVariants.{Two};
@@ -28,6 +29,12 @@ pub fn before_limits()
 /// their table `limits` has neither key.
 pub fn before_port_limits()
     ensures { (members : Members) (s : Settings) → before_ports.settings_of members ≡ Ok s → settings_of members ≡ Ok s }
+{}
+
+/// What settings meant before a limit of a segment's remotes could be asked for, they mean: those of version 3 too, where their
+/// table `limits` has no key `flood`.
+pub fn before_flood_limits()
+    ensures { (members : Members) (s : Settings) → before_flood.settings_of members ≡ Ok s → settings_of members ≡ Ok s }
 {}
 
 /// Settings of version 2 mean the same with 3 in place of their version.

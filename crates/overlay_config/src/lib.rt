@@ -7,16 +7,17 @@
 //!
 //! Specs to read: `specs/Settings` and `specs/Segment`, then the tables below them; `specs/Before`, what settings meant before
 //! there were limits, and changes before they had a version; `specs/BeforePorts`, what they meant before ports and next hops had
-//! limits to ask for; `specs/Change`; `specs/Migrate`.
+//! limits to ask for, and `specs/BeforeFlood`, before flood lists had; `specs/Change`; `specs/Migrate`.
 //!
 //! Proved: every text of settings or changes has one meaning, itself or its first fault with its key, and is read as exactly
 //! that, unless memory is refused. What a text means keeps to every rule (`laws::meanings`), and the moments of changes don't
 //! fall. Settings that aren't of version 3, and those that ask for no limits, mean what they meant before there were any
 //! (`laws::before_limits`); what settings of version 3 meant before ports and next hops had limits too, they mean
-//! (`laws::before_port_limits`); and settings of version 2 mean the same as version 3 (`laws::third_versions`). Changes that tell no
-//! version mean what they meant before they could, and the same in version 2 (`laws::unversioned_changes`). `migrate` answers
-//! a text that is read as the table of the old text in version 2 and means the same settings, or the fault of `settings_of`;
-//! what is migrated stays as it is when it's migrated again (`laws::migrations`).
+//! (`laws::before_port_limits`), and so what they meant before flood lists had (`laws::before_flood_limits`); and settings of
+//! version 2 mean the same as version 3 (`laws::third_versions`). Changes that tell no version mean what they meant before they
+//! could, and the same in version 2 (`laws::unversioned_changes`). `migrate` answers a text that is read as the table of the
+//! old text in version 2 and means the same settings, or the fault of `settings_of`; what is migrated stays as it is when it's
+//! migrated again (`laws::migrations`).
 //!
 //! Why it is so: versions 1 and 2 differ in a segment's row alone: its keys, and how its tunnels and its flood list are read
 //! (`src/tunnel.rt`). Version 3 has one key of the underlay more, and a table of limits (`src/limits.rt`), where another limit

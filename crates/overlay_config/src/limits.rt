@@ -7,12 +7,13 @@ use crate::version::Version;
 use config_text::{Reader, SettingsFault, U8Range, U16Range, U32Range};
 use underlay::Limits;
 
-const KEYS: [&str; 5] = ["ports", "segments", "hops", "entries", "addresses"];
+const KEYS: [&str; 6] = ["ports", "segments", "flood", "hops", "entries", "addresses"];
 
 /// The limits where nothing else is asked for, which versions before the third always have.
 const USUAL: Limits = Limits {
     ports: 16,
     segments: 256,
+    flood: 16,
     hops: 64,
     entries: 8192,
     addresses: 65536,
@@ -23,6 +24,12 @@ const PORTS: U8Range = U8Range { low: 1, high: 255 };
 
 /// The most segments, one for each VID.
 const SEGMENTS: U16Range = U16Range { low: 1, high: 4094 };
+
+/// The most remotes of a segment's flood list.
+const FLOOD: U16Range = U16Range { low: 1, high: 512 };
+
+/// The most remotes of all segments together, where each has as many as it may.
+const ALL_REMOTES: u32 = 1_048_576;
 
 /// The most next hops to single endpoints.
 const HOPS: U16Range = U16Range { low: 1, high: 4096 };
@@ -39,7 +46,7 @@ const ADDRESSES: U32Range = U32Range {
     high: 1_048_576,
 };
 
-/// The table of the limits.
+/// The table of the limits. `OverLimit`: the segments would have too many remotes together.
 #[tactic(auto, unfolding(crate::specs::Limits::limits_in))]
 fn read_table(at: &Reader) -> Result<Limits, SettingsFault>
     ensures value { result ≡ limits_in (place_of at.now) }
@@ -49,12 +56,17 @@ fn read_table(at: &Reader) -> Result<Limits, SettingsFault>
     at.only(&KEYS)?;
     let ports = at.defaulted("ports", &PORTS, USUAL.ports)?;
     let segments = at.defaulted("segments", &SEGMENTS, USUAL.segments)?;
+    let flood = at.defaulted("flood", &FLOOD, USUAL.flood)?;
     let hops = at.defaulted("hops", &HOPS, USUAL.hops)?;
     let entries = at.defaulted("entries", &ENTRIES, USUAL.entries)?;
     let addresses = at.defaulted("addresses", &ADDRESSES, USUAL.addresses)?;
+    if u32::from(segments) * u32::from(flood) > ALL_REMOTES {
+        return Err(SettingsFault::OverLimit(at.path("flood")));
+    }
     Ok(Limits {
         ports,
         segments,
+        flood,
         hops,
         entries,
         addresses,

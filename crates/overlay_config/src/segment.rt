@@ -1,15 +1,19 @@
 //! The table of a segment.
-ghost use Rattle.std.specs.Prelude.{◌≡◌, ◌≤◌, length};
+ghost use Rattle.std.specs.Prelude.{◌≡◌, ◌≤◌, [], length, IsTrue};
 ghost use Rattle.config_text.specs.Reader.{place_of};
+ghost use Rattle.overlay_config.specs.Flood.{is_roomy};
 ghost use Rattle.overlay_config.specs.Segment.{is_alike, is_taken, tables_of, rules_of, segment_of};
 
+use crate::flood::room_for;
 use crate::local_rules::{LocalRules, read_local};
 use crate::tunnel::{TunnelRules, read_flood, read_tunnel, read_tunnels};
 use crate::version::Version;
 use config_text::{Key, Reader, Row, SettingsFault, VidNumber};
-use flood_lists::Own;
+use flood_lists::{Own, Room};
 use frame_view::Vid;
 use overlay_settings::SegmentRule;
+use std::alloc::Global;
+use underlay::Limits;
 
 /// Whether a segment has this VID, or a tunnel of the kind and VNI of one of these.
 fn is_alike(rule: &SegmentRule, vid: Vid, tunnels: &TunnelRules) -> bool
@@ -32,22 +36,24 @@ fn is_taken(segments: &[SegmentRule], vid: Vid, tunnels: &TunnelRules) -> bool
 fn read_rules(
     version: Version,
     own: Own,
-    entries: u32,
+    limits: Limits,
     ports: u8,
     at: &Reader,
+    room: &mut Option<Room>,
 ) -> Result<(TunnelRules, LocalRules), SettingsFault>
-    requires { length (place_of at.now).prefix ≤ 13 }
-    ensures { result ≡ rules_of version own entries ports (place_of at.now) }
+    requires short { length (place_of at.now).prefix ≤ 13 }
+    requires room { IsTrue (is_roomy limits.flood [] room.old) }
+    ensures { result ≡ rules_of version own limits ports (place_of at.now) }
 {
     match version {
         Version::One => {
             let tunnel = read_tunnel(at)?;
-            let local = read_local(at, false, entries, ports)?;
-            let flood = read_flood(at, own, tunnel.kind)?;
+            let local = read_local(at, false, limits.entries, ports)?;
+            let flood = read_flood(at, own, limits.flood, tunnel.kind, room)?;
             Ok((TunnelRules::one(tunnel, flood), local))
         }
-        Version::Two => read_tables(own, false, entries, ports, at),
-        Version::Three => read_tables(own, true, entries, ports, at),
+        Version::Two => read_tables(own, false, limits, ports, at, room),
+        Version::Three => read_tables(own, true, limits, ports, at, room),
     }
 }
 
@@ -55,31 +61,35 @@ fn read_rules(
 fn read_tables(
     own: Own,
     third: bool,
-    entries: u32,
+    limits: Limits,
     ports: u8,
     at: &Reader,
+    room: &mut Option<Room>,
 ) -> Result<(TunnelRules, LocalRules), SettingsFault>
-    requires { length (place_of at.now).prefix ≤ 13 }
-    ensures { result ≡ tables_of third own entries ports (place_of at.now) }
+    requires short { length (place_of at.now).prefix ≤ 13 }
+    requires room { IsTrue (is_roomy limits.flood [] room.old) }
+    ensures { result ≡ tables_of third own limits ports (place_of at.now) }
 {
-    let tunnels = read_tunnels(at, own)?;
-    let local = read_local(at, third, entries, ports)?;
+    let tunnels = read_tunnels(at, own, limits.flood, room)?;
+    let local = read_local(at, third, limits.entries, ports)?;
     Ok((tunnels, local))
 }
 
-/// The table of a segment, beside the endpoint's own addresses, the most entries of a segment and the number of the ports.
+/// The table of a segment, beside the endpoint's own addresses, the limits in force and the number of the ports.
 #[derive(Clone, Copy)]
 pub(crate) struct SegmentRow {
+    /// What the room for a long flood list is asked of.
+    pub(crate) alloc: Global,
     pub(crate) version: Version,
     pub(crate) own: Own,
-    pub(crate) entries: u32,
+    pub(crate) limits: Limits,
     pub(crate) ports: u8,
 }
 
 impl Row for SegmentRow {
     type Out = SegmentRule;
 
-    ghost means = { λ r. segment_of r.version r.own r.entries r.ports };
+    ghost means = { λ r. segment_of r.version r.own r.limits r.ports };
 
     // `segment.4094.`, so that there is room for the tables of its tunnels.
     ghost longest = { λ _. 13 };
@@ -88,7 +98,15 @@ impl Row for SegmentRow {
     fn read(&self, earlier: &[SegmentRule], at: &Reader) -> Result<SegmentRule, SettingsFault> {
         at.only(self.version.segment_keys())?;
         let vid = at.required("vid", &VidNumber)?;
-        let (tunnels, local) = read_rules(self.version, self.own, self.entries, self.ports, at)?;
+        let mut room = room_for(self.alloc, self.limits.flood)?;
+        let (tunnels, local) = read_rules(
+            self.version,
+            self.own,
+            self.limits,
+            self.ports,
+            at,
+            &mut room,
+        )?;
         if is_taken(earlier, vid, &tunnels) {
             return Err(SettingsFault::TwoSegments(Key::numbered(
                 "segment",

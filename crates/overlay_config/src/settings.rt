@@ -59,9 +59,10 @@ fn read_segments(
     ensures sum { IfOk result (λ v. sum_of_limits v.items ≤ limits.addresses) }
 {
     let row = SegmentRow {
+        alloc,
         version,
         own,
-        entries: limits.entries,
+        limits,
         ports,
     };
     let tables = top.required_items("segment", usize::from(limits.segments))?;

@@ -1,18 +1,19 @@
 //! The tunnels of a segment, and its flood list.
 //!
 //! The tables of a segment's tunnels are read one behind the other, and each hands on the flood list up to it. No list of
-//! them is made: reading them takes no memory.
-ghost use Rattle.std.specs.Prelude.{◌≡◌, ◌≢◌, ◌≤◌, ◌+◌, decimal, length, IfOk, IfSome};
+//! them is made: reading them takes no memory but the room that they are lent.
+ghost use Rattle.std.specs.Prelude.{◌≡◌, ◌≢◌, ◌≤◌, ◌+◌, [], decimal, length, IsTrue, IfOk, IfSome};
 ghost use Rattle.std.specs.Option.{option_to_list};
 ghost use Rattle.toml.specs.View.{view};
 ghost use Rattle.config_text.specs.Reader.{place_of};
 ghost use Rattle.overlay_settings.specs.Settings.{tunnel_rule};
 ghost use Rattle.underlay.specs.Overlay.{has_tunnel, segment_of as told};
-ghost use Rattle.overlay_config.specs.Tunnel.{flood_of, tunnel_of, tunnel_item_of, tunnel_table_of, tunnels_of, vni_number};
+ghost use Rattle.overlay_config.specs.Flood.{is_roomy};
+ghost use Rattle.overlay_config.specs.Tunnel.{flood_behind, flood_of, tunnel_of, tunnel_item_of, tunnel_table_of, tunnels_of, vni_number};
 
 use crate::flood::Remotes;
 use config_text::{Column, Reader, SettingsFault, U8Range, Words};
-use flood_lists::{FloodList, Own};
+use flood_lists::{FloodList, Own, Room};
 use ip_udp_view::Tunnel;
 use overlay_settings::SegmentRule;
 use std::marker::Model;
@@ -30,9 +31,6 @@ pub(crate) const TUNNELS: [(&str, Tunnel); 2] = [
 
 /// A horizon group.
 pub(crate) const GROUP: U8Range = U8Range { low: 0, high: 255 };
-
-/// The most remotes of a segment's flood list.
-const LONGEST_FLOOD: usize = 16;
 
 /// The number of a network, 0 to 16777215.
 #[derive(Clone, Copy)]
@@ -62,16 +60,19 @@ pub(crate) fn read_tunnel(at: &Reader) -> Result<SegmentTunnel, SettingsFault>
     })
 }
 
-/// The flood list of a segment in version 1, with tunnels of this kind.
-pub(crate) fn read_flood(at: &Reader, own: Own, kind: Tunnel) -> Result<FloodList, SettingsFault>
-    ensures { result ≡ flood_of own kind (place_of at.now) }
+/// The flood list of a segment in version 1, with tunnels of this kind and so many remotes at most.
+pub(crate) fn read_flood(
+    at: &Reader,
+    own: Own,
+    most: u16,
+    kind: Tunnel,
+    room: &mut Option<Room>,
+) -> Result<FloodList, SettingsFault>
+    requires { IsTrue (is_roomy most [] room.old) }
+    ensures { result ≡ flood_of own most kind (place_of at.now) }
 {
-    at.listed(
-        "flood",
-        LONGEST_FLOOD,
-        &Remotes { kind, own },
-        FloodList::new(),
-    )
+    let remotes = Remotes { kind, own, most };
+    remotes.read(at, usize::from(most), FloodList::new(), room)
 }
 
 /// A segment's one or two tunnels, of different kinds, and its flood list; seen by contracts as the list of the tunnels
@@ -156,14 +157,18 @@ struct TunnelTable {
     flood: FloodList,
 }
 
-/// A table of a segment's tunnels, behind the one before it.
+/// A table of a segment's tunnels, behind the one before it, where the flood list has so many remotes at most.
 #[tactic(auto, unfolding(crate::specs::Tunnel::tunnel_table_of))]
 fn read_table(
     at: &Reader,
     own: Own,
+    most: u16,
     earlier: Option<TunnelTable>,
+    room: &mut Option<Room>,
 ) -> Result<TunnelTable, SettingsFault>
-    ensures value { result ≡ tunnel_table_of own (option_to_list earlier) (place_of at.now) }
+    requires { IsTrue (is_roomy most (flood_behind (option_to_list earlier)) room.old) }
+    ensures value { result ≡ tunnel_table_of own most (option_to_list earlier) (place_of at.now) }
+    ensures room { IfOk result (λ t. IsTrue (is_roomy most t.flood room.new)) }
     ensures apart { IfOk result (λ t. IfSome earlier (λ e. t.tunnel.kind ≢ e.tunnel.kind)) }
 {
     at.only(&KEYS)?;
@@ -179,8 +184,8 @@ fn read_table(
     };
     let vni = at.required("vni", &VniNumber)?;
     let group = at.defaulted("group", &GROUP, 0)?;
-    let room = LONGEST_FLOOD - before.targets().len();
-    let flood = at.listed("flood", room, &Remotes { kind, own }, before)?;
+    let left = usize::from(most).saturating_sub(before.targets().len());
+    let flood = Remotes { kind, own, most }.read(at, left, before, room)?;
     let tunnel = SegmentTunnel { kind, vni, group };
     Ok(TunnelTable { tunnel, flood })
 }
@@ -192,33 +197,43 @@ fn read_item(
     number: u32,
     value: &Value,
     own: Own,
+    most: u16,
     earlier: Option<TunnelTable>,
+    room: &mut Option<Room>,
 ) -> Result<TunnelTable, SettingsFault>
-    requires { length list.now + length (decimal number) ≤ 20 }
-    ensures value { result ≡ tunnel_item_of own (option_to_list earlier) list.now number (view value.now) }
+    requires short { length list.now + length (decimal number) ≤ 20 }
+    requires room { IsTrue (is_roomy most (flood_behind (option_to_list earlier)) room.old) }
+    ensures value { result ≡ tunnel_item_of own most (option_to_list earlier) list.now number (view value.now) }
+    ensures room { IfOk result (λ t. IsTrue (is_roomy most t.flood room.new)) }
     ensures apart { IfOk result (λ t. IfSome earlier (λ e. t.tunnel.kind ≢ e.tunnel.kind)) }
 {
     let at = Reader::row(list, number, value)?;
-    read_table(&at, own, earlier)
+    read_table(&at, own, most, earlier, room)
 }
 
-/// The tunnels of a segment in version 2, and its flood list.
+/// The tunnels of a segment in version 2, and its flood list of so many remotes at most.
 #[tactic(auto, unfolding(crate::specs::Tunnel::tunnels_of))]
-pub(crate) fn read_tunnels(at: &Reader, own: Own) -> Result<TunnelRules, SettingsFault>
-    requires { length (place_of at.now).prefix ≤ 13 }
-    ensures { result ≡ tunnels_of own (place_of at.now) }
+pub(crate) fn read_tunnels(
+    at: &Reader,
+    own: Own,
+    most: u16,
+    room: &mut Option<Room>,
+) -> Result<TunnelRules, SettingsFault>
+    requires short { length (place_of at.now).prefix ≤ 13 }
+    requires room { IsTrue (is_roomy most [] room.old) }
+    ensures { result ≡ tunnels_of own most (place_of at.now) }
 {
     let list = at.path("tunnel");
     match at.limited_items("tunnel", 2)? {
         [] => Err(SettingsFault::Missing(list)),
         [first] => {
-            let table = read_item(list.as_str(), 1, first, own, None)?;
+            let table = read_item(list.as_str(), 1, first, own, most, None, room)?;
             Ok(TunnelRules::one(table.tunnel, table.flood))
         }
         [first, second, ..] => {
-            let table = read_item(list.as_str(), 1, first, own, None)?;
+            let table = read_item(list.as_str(), 1, first, own, most, None, room)?;
             let first = table.tunnel;
-            let table = read_item(list.as_str(), 2, second, own, Some(table))?;
+            let table = read_item(list.as_str(), 2, second, own, most, Some(table), room)?;
             Ok(TunnelRules {
                 first,
                 second: Some(table.tunnel),

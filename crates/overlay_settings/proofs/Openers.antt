@@ -21,14 +21,14 @@ use Rattle.overlay_settings.proofs.Listed.{each_mapped, all_mapped, test_mapped,
 number_is : (ports : ℕ) (other earlier : List ℕ) (p : ℕ) → IsMember ports other earlier p → is_port ports p ≡ true
 number_is ports other earlier p is = and_from (nat_le 1 p) (nat_le p ports) (le-leb 1 p is.0.0) (le-leb p ports is.0.1)
 
-lists : (o : Own) (ports : ℕ) (earlier : List SegmentRule) (s : SegmentRule) → IsSegment o ports earlier s → lists_ports ports (member_rule s) ≡ true
-lists o ports earlier s is =
+lists : (o : Own) (most ports : ℕ) (earlier : List SegmentRule) (s : SegmentRule) → IsSegment o most ports earlier s → lists_ports ports (member_rule s) ≡ true
+lists o most ports earlier s is =
     and_from (are_ports ports s.untagged) (are_ports ports s.tagged)
     (all_pass (IsMember ports []) (is_port ports) (number_is ports []) [] s.untagged is.untagged)
     (all_pass (IsMember ports s.untagged) (is_port ports) (number_is ports s.untagged) [] s.tagged is.tagged)
 
 pub ports_listed : (s : Settings) → MeetsRules s → IsTrue (list_all (lists_ports (length s.ports)) (map member_rule s.segments))
-ports_listed s rules = test_mapped member_rule (IsSegment (own s.underlay) (length s.ports)) (lists_ports (length s.ports)) (lists (own s.underlay) (length s.ports)) [] s.segments rules.segments
+ports_listed s rules = test_mapped member_rule (IsSegment (own s.underlay) s.underlay.limits.flood (length s.ports)) (lists_ports (length s.ports)) (lists (own s.underlay) s.underlay.limits.flood (length s.ports)) [] s.segments rules.segments
 
 -- ---- tunnels
 
@@ -45,7 +45,7 @@ tunnels_apart s (e ∷ earlier) h =
 pub are_apart : (s : Settings) → MeetsRules s → AreApart (map tunnel_rule s.segments)
 are_apart s rules =
     pairs_from clash IsApart (λ earlier r is. is) (map tunnel_rule s.segments)
-    (each_mapped tunnel_rule (IsSegment (own s.underlay) (length s.ports)) IsApart (λ earlier x is. tunnels_apart x earlier is.apart) [] s.segments rules.segments)
+    (each_mapped tunnel_rule (IsSegment (own s.underlay) s.underlay.limits.flood (length s.ports)) IsApart (λ earlier x is. tunnels_apart x earlier is.apart) [] s.segments rules.segments)
 
 -- ---- tables
 
@@ -61,13 +61,13 @@ tables_other s (e ∷ earlier) h =
 
 pub are_distinct : (s : Settings) → MeetsRules s → AreForDistinctVids (map table_rule s.segments)
 are_distinct s rules i j d lt within same =
-    let others = each_mapped table_rule (IsSegment (own s.underlay) (length s.ports)) IsOther (λ earlier x is. tables_other x earlier is.apart) [] s.segments rules.segments in
+    let others = each_mapped table_rule (IsSegment (own s.underlay) s.underlay.limits.flood (length s.ports)) IsOther (λ earlier x is. tables_other x earlier is.apart) [] s.segments rules.segments in
     let apart = pairs_from (λ a b. eqb a.vid b.vid) IsOther (λ earlier r is. is) (map table_rule s.segments) others in
     absurd (false≢true (sym (apart i j d lt within) ∙ eq-eqb _ _ same))
 
 pub are_rules : (s : Settings) → MeetsRules s → All IsRule (map table_rule s.segments)
 are_rules s rules =
-    all_mapped table_rule (IsSegment (own s.underlay) (length s.ports)) IsRule (λ earlier x is. record { some_entries = is.limit; long_enough = is.ageing.0; not_too_long = is.ageing.1 }) [] s.segments rules.segments
+    all_mapped table_rule (IsSegment (own s.underlay) s.underlay.limits.flood (length s.ports)) IsRule (λ earlier x is. record { some_entries = is.limit; long_enough = is.ageing.0; not_too_long = is.ageing.1 }) [] s.segments rules.segments
 
 limits_same : (segments : List SegmentRule) → map (λ (r : TableRule). r.limit) (map table_rule segments) ≡ map (λ (s : SegmentRule). s.limit) segments
 limits_same [] = refl

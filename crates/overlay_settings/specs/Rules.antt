@@ -1,5 +1,5 @@
 -- What settings keep to. It states no standard.
-use Rattle.std.specs.Prelude.{◌≡◌, ℕ, ◌≤◌, ◌==◌, ◌||◌, IsTrue, IsFalse, List, [], ◌∷◌, ◌++◌, length, is_some, is_none, IfSome, Some}
+use Rattle.std.specs.Prelude.{◌≡◌, ℕ, ◌*◌, ◌≤◌, ◌==◌, ◌||◌, IsTrue, IsFalse, List, [], ◌∷◌, ◌++◌, length, is_some, is_none, IfSome, Some}
 use Rattle.std.specs.List.{list_any}
 use Rattle.std.specs.FinMap.{get, len}
 use Rattle.ip_udp_view.specs.declared.addr.Addr.{Addr}
@@ -74,6 +74,9 @@ pub record IsUnderlay (u : Underlay) : Type 0 where
   pub hop_limit : IsWithin 1 4096 u.limits.hops
   -- the most segments: all VIDs (IEEE 802.1Q, 9.6)
   pub limits : IsWithin 1 4094 u.limits.segments
+  -- the most remotes of a segment, and of all segments together where each has as many
+  pub flood_limit : IsWithin 1 512 u.limits.flood
+  pub flood_product : u.limits.segments * u.limits.flood ≤ 1048576
   pub entries : IsWithin 1 131072 u.limits.entries
   pub addresses : IsWithin 1 1048576 u.limits.addresses
 
@@ -91,19 +94,19 @@ IsMember ports other earlier p = IsWithin 1 ports p × IsFalse (is_member earlie
 abbrev pub IsTunnel : List SegmentTunnel → SegmentTunnel → Type 0
 IsTunnel earlier t = IsWithin 0 16777215 t.vni × IsWithin 0 255 t.group × IsFalse (list_any (λ e. same_kind e.kind t.kind) earlier)
 
--- a remote that the flood list takes, by a kind of tunnel that the segment has, at an address as long as its family's are
-pub record IsRemote (own : Own) (tunnels : List SegmentTunnel) (earlier : Entries) (r : Remote) : Type 0 where
+-- a remote that a flood list of so many at most takes, by a kind of tunnel that the segment has, at an address as long as its family's are
+pub record IsRemote (own : Own) (most : ℕ) (tunnels : List SegmentTunnel) (earlier : Entries) (r : Remote) : Type 0 where
   pub kind : IsTrue (list_any (λ t. same_kind t.kind r.tunnel) tunnels)
-  pub taken : IsTrue (is_none (first (add_faults own earlier r.tunnel r.addr)))
+  pub taken : IsTrue (is_none (first (add_faults own most earlier r.tunnel r.addr)))
   pub is_addr : IsAddr r.addr
 
--- a segment of an endpoint with these own addresses and so many ports
-pub record IsSegment (own : Own) (ports : ℕ) (earlier : List SegmentRule) (s : SegmentRule) : Type 0 where
+-- a segment of an endpoint with these own addresses, so many remotes of a segment at most, and so many ports
+pub record IsSegment (own : Own) (most ports : ℕ) (earlier : List SegmentRule) (s : SegmentRule) : Type 0 where
   pub vid : IsWithin 1 4094 s.vid
   pub tunnel_count : IsWithin 1 2 (length s.tunnels)
   pub tunnels : EachBehind IsTunnel [] s.tunnels
-  pub flood_count : length s.flood ≤ 16
-  pub flood : EachBehind (IsRemote own s.tunnels) [] s.flood
+  pub flood_count : length s.flood ≤ most
+  pub flood : EachBehind (IsRemote own most s.tunnels) [] s.flood
   pub limit : 1 ≤ s.limit
   -- in seconds (802.1Q, 8.8.3)
   pub ageing : IsWithin 10 1000000 s.ageing
@@ -124,7 +127,7 @@ pub record MeetsRules (s : Settings) : Type 0 where
   pub port_count : IsWithin 1 s.underlay.limits.ports (length s.ports)
   pub ports : EachBehind IsPort [] s.ports
   pub segment_count : IsWithin 1 s.underlay.limits.segments (length s.segments)
-  pub segments : EachBehind (IsSegment (own s.underlay) (length s.ports)) [] s.segments
+  pub segments : EachBehind (IsSegment (own s.underlay) s.underlay.limits.flood (length s.ports)) [] s.segments
   pub entries : EachBehind (HasEntries s.underlay.limits.entries) [] s.segments
   pub pool : IsWithin 1 s.underlay.limits.addresses s.pool
   pub limits : sum_of_limits s.segments ≤ s.pool

@@ -1,5 +1,5 @@
 -- What an endpoint knows when it is opened.
-use Rattle.std.proofs.Common.{refl, sym, subst, ℕ, List, [], ◌∷◌, ◌++◌, length, map}
+use Rattle.std.proofs.Common.{refl, sym, subst, ℕ, ◌≤◌, arith, List, [], ◌∷◌, ◌++◌, length, map}
 use Rattle.std.specs.List.{AllByRecursion}
 use Rattle.std.specs.Ordering.{nat_cmp}
 use Rattle.std.specs.FinMap.{from_entries, get-empty}
@@ -21,20 +21,20 @@ use Rattle.part_files.proofs.Knowing.{IsFloodOf, Knows, no-flood, put-in}
 use Rattle.part_files.proofs.Remotes.{IsFar, IsFlood}
 use Rattle.part_files.proofs.Stations.{stand-empty}
 
-addrs-told : (o : Own) (tunnels : List SegmentTunnel) (earlier flood : Entries) → EachBehind (IsRemote o tunnels) earlier flood → AllByRecursion (λ (r : Endpoint). IsAddr r.addr) flood
-addrs-told o tunnels earlier [] each = tt
-addrs-told o tunnels earlier (r ∷ flood) each = let first = each.0 in (first.is_addr, addrs-told o tunnels (earlier ++ r ∷ []) flood each.1)
+addrs-told : (o : Own) (most : ℕ) (tunnels : List SegmentTunnel) (earlier flood : Entries) → EachBehind (IsRemote o most tunnels) earlier flood → AllByRecursion (λ (r : Endpoint). IsAddr r.addr) flood
+addrs-told o most tunnels earlier [] each = tt
+addrs-told o most tunnels earlier (r ∷ flood) each = let first = each.0 in (first.is_addr, addrs-told o most tunnels (earlier ++ r ∷ []) flood each.1)
 
-floods-told : (o : Own) (n : ℕ) (earlier rules : List SegmentRule) → EachBehind (IsSegment o n) earlier rules → (w : ℕ)
+floods-told : (o : Own) (most n : ℕ) (earlier rules : List SegmentRule) → most ≤ 512 → EachBehind (IsSegment o most n) earlier rules → (w : ℕ)
     → IsFlood (flood_in (from_entries {R = nat_cmp} (map (λ (rule : TunnelRule). (rule.vid, segment_of rule)) (map tunnel_rule rules))) w)
-floods-told o n earlier [] each w = subst IsFloodOf (sym (get-empty {X = Segment} nat_cmp w)) no-flood
-floods-told o n earlier (s ∷ rules) each w =
+floods-told o most n earlier [] fits each w = subst IsFloodOf (sym (get-empty {X = Segment} nat_cmp w)) no-flood
+floods-told o most n earlier (s ∷ rules) fits each w =
     let first = each.0 in
     put-in (from_entries {R = nat_cmp} (map (λ (rule : TunnelRule). (rule.vid, segment_of rule)) (map tunnel_rule rules))) s.vid (segment_of (tunnel_rule s))
-    (first.flood_count, addrs-told o s.tunnels [] s.flood first.flood) (floods-told o n (earlier ++ s ∷ []) rules each.1) w
+    (omega (arith, first.flood_count, fits), addrs-told o most s.tunnels [] s.flood first.flood) (floods-told o most n (earlier ++ s ∷ []) rules fits each.1) w
 
 pub knows-opened : (s : Rules) → MeetsRules s → Knows (length s.ports) s.underlay (opened (settings_told s)).bridges
 knows-opened s rules = record {
-  settings = record { ports = refl; underlay = refl; flood = floods-told (own s.underlay) (length s.ports) [] s.segments rules.segments };
+  settings = record { ports = refl; underlay = refl; flood = floods-told (own s.underlay) s.underlay.limits.flood (length s.ports) [] s.segments rules.underlay.flood_limit.1 rules.segments };
   tables = λ vid. stand-empty IsFar;
 }

@@ -1,11 +1,12 @@
 -- What an endpoint's settings and tables keep to, whatever comes.
 use Rattle.std.proofs.Common.{◌≡◌, ◌∙◌, refl, sym, ap, subst, ℕ, ◌-◌, ◌==◌, ◌<◌, arith, Bool, true, false, cond, not, [], ◌∷◌, ◌++◌, length, length-append, filter, Option, Some, None, Result, Ok, Err}
-use Rattle.std.specs.Prelude.{is_none, nat_lt}
+use Rattle.std.specs.Prelude.{is_none, min, nat_lt}
 use Rattle.std.specs.Option.{option_map, option_map_or}
 use Rattle.std.specs.FinMap.{empty, get, insert, len, remove}
 use Rattle.std.proofs.lemmas.Bool.{leb-false}
 use Rattle.std.proofs.lemmas.List.{length-set}
 use Rattle.std.proofs.lemmas.List.Sums.{count_by-le-length, length-filter}
+use Rattle.std.proofs.Math.Nat.{min-le_right}
 use Rattle.timeline.proofs.KnownEvents.{all-append}
 use Rattle.frame_view.specs.Frame.{Frame}
 use Rattle.frame_view.specs.declared.reason.Refused.{Refused}
@@ -48,7 +49,7 @@ flood-left : (p : Endpoint → Bool) (flood : Entries) → IsFlood flood → IsF
 flood-left p flood is =
     (omega (arith, is.0, length-filter p flood, count_by-le-length p flood), all-filter (λ (r : Endpoint). IsAddr r.addr) p flood is.1)
 
-flood-more : (flood : Entries) (r : Endpoint) → IsFlood flood → length flood < 16 → IsAddr r.addr → IsFlood (flood ++ r ∷ [])
+flood-more : (flood : Entries) (r : Endpoint) → IsFlood flood → length flood < 512 → IsAddr r.addr → IsFlood (flood ++ r ∷ [])
 flood-more flood r is room own = (omega (arith, room, length-append flood (r ∷ [])), all-append (λ (x : Endpoint). IsAddr x.addr) flood (r ∷ []) is.1 (own, tt))
 
 -- the list of a segment, where there is one
@@ -130,11 +131,12 @@ module _ (n : ℕ) (U : Underlay) where
   no-fault (Some fault) h = absurd cc
 
   -- there is room where an entry is added
-  has-room : (S : Settings) (vid : ℕ) (addr : Addr) (tunnel : Option Tunnel) (s : SegmentSettings) → segment_at S vid ≡ Some s → refused S (AddFlood vid addr tunnel) ≡ None → length s.flood < 16
+  has-room : (S : Settings) (vid : ℕ) (addr : Addr) (tunnel : Option Tunnel) (s : SegmentSettings) → segment_at S vid ≡ Some s → refused S (AddFlood vid addr tunnel) ≡ None → length s.flood < 512
   has-room S vid addr tunnel s is none =
       let t = at-tunnel (kind_named s.tunnels tunnel) _ (in-segment (segment_at S vid) _ s is none) in
-      let held = NothingHolds-from (add_faults (own S.overlay.underlay) s.flood t.0 addr) (no-fault _ t.1) in
-      omega (arith, leb-false 16 (length s.flood) held.1.1.1.1.0)
+      let most = S.overlay.underlay.limits.flood in
+      let held = NothingHolds-from (add_faults (own S.overlay.underlay) most s.flood t.0 addr) (no-fault _ t.1) in
+      omega (arith, leb-false (min most 512) (length s.flood) held.1.1.1.1.0, min-le_right most 512)
 
   makes-flood : (S : Settings) (c : Change) → HasAddr c → refused S c ≡ None → Keeps n U S → MakesFlood (effect c) S
   makes-flood S (AddFlood vid addr tunnel) named none k =

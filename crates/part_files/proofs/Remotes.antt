@@ -16,9 +16,9 @@ abbrev pub IsFar : Place → Type 0
 IsFar (Local port) = Unit {0}
 IsFar (Remote kind addr) = IsAddr addr
 
--- so has each entry of a flood list, and there are no more than 16
+-- so has each entry of a flood list, and there are no more than 512
 abbrev pub IsFlood : Entries → Type 0
-IsFlood flood = (length flood ≤ 16) × AllByRecursion (λ (r : Endpoint). IsAddr r.addr) flood
+IsFlood flood = (length flood ≤ 512) × AllByRecursion (λ (r : Endpoint). IsAddr r.addr) flood
 
 -- so has the place of a fixed entry
 abbrev pub IsTarget : Target → Type 0

@@ -84,7 +84,3 @@ module _ {T : Type 0} where
   pub unless_then : (result : Result T MergeFault) (P Q : Type 0) → UnlessDevice result P → (P → Q) → UnlessDevice result Q
   unless_then (Ok x) P Q p then_ = then_ p
   unless_then (Err fault) P Q p then_ = p
-
-  -- a fact that stood before, and another unless a device failed since
-  pub unless_both : (result : Result T MergeFault) (P Q R : Type 0) → P → UnlessDevice result Q → (P → Q → R) → UnlessDevice result R
-  unless_both result P Q R p q both = unless_then result Q R q (both p)

@@ -1,11 +1,11 @@
 -- The lines that were written so far, and more of them.
 use Rattle.std.proofs.Common.{◌≡◌, ◌∙◌, refl, sym, ap, subst, ℕ, ◌+◌, ◌<◌, true, false, List, [], ◌∷◌, ◌++◌, length, slice_index_or, slice_set, append-nil, arith, Option, Some, Result, Ok, Err, inl, inr}
-use Rattle.std.proofs.KnownBytes.{Appends-kept, Appends-nil, Appends-trans}
+use Rattle.std.proofs.KnownBytes.{Appends-nil, Appends-trans}
 use Rattle.std.proofs.lemmas.Bool.{cases_eq}
 use Rattle.std.proofs.lemmas.List.{get_or-set_other, get_or-set_same, map-append}
 use Rattle.std.proofs.lemmas.List.Folds.{concat-append}
 use Rattle.std.proofs.lemmas.List.FromFn.{map-range_with_len_more}
-use Rattle.std.specs.Io.KnownBytes.{Appends, Keeps}
+use Rattle.std.specs.Io.KnownBytes.{Appends}
 use Rattle.std.specs.List.{concat}
 use Rattle.std.specs.Prelude.{OnOk}
 use Rattle.timeline.proofs.KnownEvents.{all-append}
@@ -15,7 +15,6 @@ use Rattle.part_lines.specs.declared.facts.LineFacts.TheVariants as told
 use Rattle.part_lines.specs.declared.fault.LineFault.{LineFault}
 use Rattle.part_merge.specs.Coming.{OpenPart, coming_by, coming_in, is_over}
 use Rattle.part_merge.specs.Firsts.{IsNone}
-use Rattle.part_merge.specs.Left.{UnlessDevice}
 use Rattle.part_merge.specs.Numbered.{AddsCuts, AddsEvents, AddsLine, AddsNumbered, IsOfCut, number_in}
 use Rattle.part_merge.specs.declared.fault.MergeFault.{MergeFault}
 use Rattle.part_merge.specs.declared.coming.Coming.{Coming}
@@ -106,8 +105,3 @@ module _ {T : Type 0} where
   pub always : (P : Type 0) (result : Result T MergeFault) → P → OnOk result P
   always P (Ok x) p = p
   always P (Err fault) p = tt
-
-  -- a line that was put is there behind what is held back
-  pub handed_line : (comes : Coming) (old mid new : Option (List ℕ)) (P : Type 0) (result : Result T MergeFault) → AddsLine comes old mid → UnlessDevice result (P × Keeps mid new) → OnOk result (AddsLine comes old new)
-  handed_line comes old mid new P (Ok x) line kept = record { line = line.line; is = line.is; added = Appends-kept old mid new line.line line.added kept.1 }
-  handed_line comes old mid new P (Err fault) line kept = tt

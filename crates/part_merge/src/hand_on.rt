@@ -1,9 +1,9 @@
 //! What outputs hold back, handed on between events: the captures first and the lines behind them, so that no line leaves
 //! before the records of its event.
 //!
-//! Where the lines' block has no room for one line more of a run, 4,096 octets with up to 16 ports and 59,134 with more, all
-//! blocks are handed on, the captures' first, as a run does (`stream_run`). So a merge that is killed, or a full disk, leaves no
-//! line without its records.
+//! Where the lines' block has no room for the line of the next event, all blocks are handed on before the event is put, the
+//! captures' first. A run asks for the room of its longest line (`stream_run`); a merge has read that line already, and asks for
+//! its own. So a merge that is killed, or a full disk, leaves no line without its records.
 //!
 //! Where a read of a part may wait, all goes on before each: before the record that is copied or the line that is fetched, unless
 //! it was read ahead whole. So whenever a merge waits, all that was merged stands outside.
@@ -103,7 +103,7 @@ pub(crate) fn hand_on_all<W: Output>(
     hand_on_lines(decisions)
 }
 
-/// Hands on what the outputs hold back, where a read comes that may wait.
+/// Hands on what the outputs hold back, where a read comes that may wait, or a line that has no room.
 #[inline(always)]
 pub(crate) fn hand_on_before<W: Output>(
     waits: bool,
@@ -124,7 +124,7 @@ pub(crate) fn hand_on_before<W: Output>(
     Ok(())
 }
 
-/// Hands on what the captures hold back, where a read comes that may wait.
+/// Hands on what the captures hold back, where a read comes that may wait, or lines that might have no room.
 #[inline(always)]
 pub(crate) fn hand_on_captures_before<W: Output>(
     waits: bool,

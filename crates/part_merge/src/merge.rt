@@ -16,11 +16,13 @@ ghost use Rattle.part_merge.specs.Whole.{Adds, AllHold, AllRise, AreParts, HaveA
 
 use crate::fault::{MergeFault, PartFault, Target};
 use crate::first::find_first;
-use crate::hand_on::{hand_on_all, hand_on_captures_before};
+use crate::hand_on::{hand_on_before, hand_on_captures_before};
 use crate::part::Part;
-use decision_lines::most_of_a_line;
 use pcap_stream::{Input, Output, Sink};
 use timeline::Tap;
+
+/// How many octets the lines of a run's cut captures have at most: 256 lines of 30.
+const MOST_OF_CUTS: usize = 7_680;
 
 /// Puts the outputs of the parts of a run together, to outputs of as many captures.
 ///
@@ -133,8 +135,8 @@ fn put_at<R: Input, W: Output>(
     parts[index].put_event(index, port_sinks, underlay_sink, decisions, may_wait)
 }
 
-/// Puts the event that comes next in a part to the outputs. Where the next line might find no room beside those that are held
-/// back, all that is held back is handed on.
+/// Puts the event that comes next in a part to the outputs. Where its line has no room beside those that are held back, all that
+/// is held back is handed on before.
 fn put_and_hand_on<R: Input, W: Output>(
     parts: &mut [Part<R>],
     index: usize,
@@ -154,13 +156,11 @@ fn put_and_hand_on<R: Input, W: Output>(
         (W.failures decisions.new) result }
     ensures waits { IsOutAtRead may_wait port_sinks.new underlay_sink.new (W.held decisions.new) result }
 {
-    if let Err(fault) = put_at(parts, index, port_sinks, underlay_sink, decisions, may_wait) {
+    let is_full = decisions.must_hand_on(parts[index].line().len());
+    if let Err(fault) = hand_on_before(is_full, port_sinks, underlay_sink, decisions) {
         return Err(fault);
     }
-    if decisions.must_hand_on(most_of_a_line(port_sinks.len())) {
-        return hand_on_all(port_sinks, underlay_sink, decisions);
-    }
-    Ok(())
+    put_at(parts, index, port_sinks, underlay_sink, decisions, may_wait)
 }
 
 /// Puts the events of all parts to the outputs, in order of their numbers, of which none may be missing.
@@ -209,8 +209,8 @@ fn put_events<R: Input, W: Output>(
     Ok(())
 }
 
-/// Puts the events of all parts to the outputs as [`put_events`] does. Where reads may wait, the captures hold nothing back behind
-/// the last of them.
+/// Puts the events of all parts to the outputs as [`put_events`] does. Where reads may wait, or the lines of cut captures might
+/// find no room, the captures hold nothing back behind the last of them.
 fn put_all_events<R: Input, W: Output>(
     parts: &mut [Part<R>],
     port_sinks: &mut [Sink<W>],
@@ -236,7 +236,8 @@ fn put_all_events<R: Input, W: Output>(
     if let Err(fault) = put_events(parts, port_sinks, underlay_sink, decisions, may_wait) {
         return Err(fault);
     }
-    hand_on_captures_before(may_wait, port_sinks, underlay_sink)
+    let is_full = decisions.must_hand_on(MOST_OF_CUTS);
+    hand_on_captures_before(may_wait || is_full, port_sinks, underlay_sink)
 }
 
 /// What is wrong with a part whose event of this number comes behind one that is no smaller.

@@ -168,7 +168,7 @@ impl<R: Input> Part<R> {
     }
 
     /// The next line.
-    fn line(&self) -> &[u8]
+    pub(crate) fn line(&self) -> &[u8]
         ensures line { result.now ≡ self.now.reader.line }
         ensures is_of { IsOf self.now.coming self.now.reader.line }
     {

@@ -11,6 +11,7 @@ pub(crate) fn make(alloc: Global, name: &str, count: u16) -> Result<Answer, Fail
         "none" => Ok(none(alloc, count)),
         "line_of" => Ok(texts::line(alloc, count)),
         "settings_of" => Ok(texts::settings(alloc, count, inputs::endpoint())),
+        "settings_of_long" => Ok(texts::settings(alloc, count, inputs::long_lists())),
         "migrate" => Ok(texts::migrated(alloc, count, inputs::small(), inputs::small_migrated())),
         "changes_of" => Ok(texts::changes(alloc, count, inputs::changes())),
         "check_text" => Ok(texts::looked(
@@ -54,9 +55,11 @@ fn make_opened(alloc: Global, name: &str, count: u16) -> Result<Answer, Fail> {
         "ListTables" => openings::tables(alloc, count, false),
         "SharedTables" => openings::tables(alloc, count, true),
         "PortSet" => openings::ports(alloc, count),
-        "Under" => openings::under(alloc, count),
+        "Under" => openings::under(alloc, count, inputs::endpoint()),
+        "Under_long" => openings::under(alloc, count, inputs::long_lists()),
         "EndpointState" => openings::state(alloc, count),
-        "Endpoint" => openings::endpoint(alloc, count),
+        "Endpoint" => openings::endpoint(alloc, count, inputs::endpoint()),
+        "Endpoint_long" => openings::endpoint(alloc, count, inputs::long_lists()),
         _ => make_decided(alloc, name, count),
     }
 }

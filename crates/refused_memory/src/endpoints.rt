@@ -11,9 +11,9 @@ use std::alloc::{AllocError, Global};
 use std::test::Fail;
 use test_inputs::memory::request;
 
-/// The settings of two segments.
-pub(crate) fn settings(alloc: Global) -> Result<Settings, Fail> {
-    match settings_of(alloc, inputs::endpoint().as_bytes()) {
+/// The settings of a text.
+pub(crate) fn settings(alloc: Global, text: &str) -> Result<Settings, Fail> {
+    match settings_of(alloc, text.as_bytes()) {
         Ok(settings) => Ok(settings),
         Err(_) => Err(Fail::new("no settings")),
     }
@@ -45,7 +45,7 @@ fn decision<'a>(endpoint: &mut Endpoint, octets: &'a [u8]) -> Option<Decision<'a
 
 /// What is decided of the capture's frame at port 1.
 fn decided<'a>(alloc: Global) -> Result<Decision<'a>, Fail> {
-    let settings = settings(alloc)?;
+    let settings = settings(alloc, inputs::endpoint())?;
     let mut endpoint = opened(alloc, settings)?;
     match decision(&mut endpoint, inputs::octets()) {
         Some(decision) => Ok(decision),

@@ -54,6 +54,38 @@ pub(crate) fn endpoint<'a>() -> &'a str {
     ENDPOINT
 }
 
+/// An endpoint with one port and two segments of three at most, one of which floods to 17 remotes of 20 at most.
+pub(crate) fn long_lists<'a>() -> &'a str {
+    r#"version = 3
+[limits]
+segments = 3
+flood = 20
+[underlay]
+mac = "02:00:00:00:aa:01"
+next_hop = "02:00:00:00:aa:fe"
+ip4 = "192.0.2.1"
+[[port]]
+pvid = 10
+[[segment]]
+vid = 10
+untagged = [1]
+[[segment.tunnel]]
+kind = "vxlan"
+vni = 5000
+flood = [
+    "198.51.100.1", "198.51.100.2", "198.51.100.3", "198.51.100.4", "198.51.100.5", "198.51.100.6", "198.51.100.7",
+    "198.51.100.8", "198.51.100.9", "198.51.100.10", "198.51.100.11", "198.51.100.12", "198.51.100.13", "198.51.100.14",
+    "198.51.100.15", "198.51.100.16", "198.51.100.17",
+]
+[[segment]]
+vid = 20
+[[segment.tunnel]]
+kind = "geneve"
+vni = 6000
+flood = ["198.51.100.1"]
+"#
+}
+
 /// An endpoint with one port and one segment.
 pub(crate) fn small<'a>() -> &'a str {
     r#"version = 1

@@ -7,7 +7,7 @@
 //! one build refuses each in turn. The script has the number of requests of each call, so that one more is seen too;
 //! `tests/refused_memory.sh count` prints them anew where a change means to alter them.
 //!
-//! Proved: it is safe and ends. What is tested of each of the 24 calls stands in docs/PROVED.md, "Refused memory".
+//! Proved: it is safe and ends. What is tested of each of the 27 calls stands in docs/PROVED.md, "Refused memory".
 //!
 //! Why it is so: of a call that makes something new no clause says why memory was refused. Of a refusal `Vec::with_capacity`
 //! says only that the capacity isn't 0 (`succeeds { capacity ≡ 0 → IsOk result }`), and `Vec::from_slice` and `Vec::from_elem`,

@@ -1,6 +1,7 @@
 //! What is opened with settings, each by itself.
 use crate::answer::Answer;
 use crate::endpoints::{opened, settings};
+use crate::inputs;
 use endpoint_state::EndpointState;
 use filter_db::{ListTables, TableRule};
 use frame_view::Vid;
@@ -36,7 +37,7 @@ pub(crate) fn tables(alloc: Global, count: u16, are_shared: bool) -> Result<Answ
 
 /// Opens the ports.
 pub(crate) fn ports(alloc: Global, count: u16) -> Result<Answer, Fail> {
-    let settings = settings(alloc)?;
+    let settings = settings(alloc, inputs::endpoint())?;
     request(alloc, count);
     if settings.ports().len() > 255 {
         return Ok(Answer::Wrong);
@@ -44,9 +45,9 @@ pub(crate) fn ports(alloc: Global, count: u16) -> Result<Answer, Fail> {
     Ok(Answer::of(PortSet::open(alloc, settings.ports(), &[]).is_ok(), true))
 }
 
-/// Opens the underlay.
-pub(crate) fn under(alloc: Global, count: u16) -> Result<Answer, Fail> {
-    let parts = settings(alloc)?.into_parts();
+/// Opens the underlay, with no segment.
+pub(crate) fn under(alloc: Global, count: u16, text: &str) -> Result<Answer, Fail> {
+    let parts = settings(alloc, text)?.into_parts();
     request(alloc, count);
     let rules = Vec::new(alloc);
     Ok(Answer::of(Under::open(alloc, parts.underlay, rules).is_ok(), true))
@@ -54,14 +55,14 @@ pub(crate) fn under(alloc: Global, count: u16) -> Result<Answer, Fail> {
 
 /// Opens the state of an endpoint.
 pub(crate) fn state(alloc: Global, count: u16) -> Result<Answer, Fail> {
-    let settings = settings(alloc)?;
+    let settings = settings(alloc, inputs::endpoint())?;
     request(alloc, count);
     Ok(Answer::of(EndpointState::open(alloc, settings).is_ok(), true))
 }
 
 /// Opens an endpoint.
-pub(crate) fn endpoint(alloc: Global, count: u16) -> Result<Answer, Fail> {
-    let settings = settings(alloc)?;
+pub(crate) fn endpoint(alloc: Global, count: u16, text: &str) -> Result<Answer, Fail> {
+    let settings = settings(alloc, text)?;
     request(alloc, count);
     Ok(Answer::of(opened(alloc, settings).is_ok(), true))
 }

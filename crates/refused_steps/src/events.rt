@@ -1,5 +1,6 @@
 //! Frames, packets and segments, each another one than the one before.
 use frame_view::Vid;
+use ip_udp_view::Addr;
 use overlay_config::NewSegment;
 use underlay::Tunnels;
 use vxlan_head::Vni;
@@ -20,6 +21,18 @@ pub(crate) fn frame_of(n: u8, vid: u8) -> [u8; 18] {
     [
         0x02, 0, 0, 0, 0, to, 0x02, 0, 0, 0, 0, from, 0x81, 0, 0, vid, 0x08, 0,
     ]
+}
+
+/// A frame to everybody in a VLAN.
+pub(crate) fn broadcast(vid: u8) -> [u8; 18] {
+    [
+        0xFF, 0xFF, 0xFF, 0xFF, 0xFF, 0xFF, 0x02, 0, 0, 0, 0, 0x01, 0x81, 0, 0, vid, 0x08, 0,
+    ]
+}
+
+/// The remote endpoint at 198.51.100 and this octet.
+pub(crate) fn remote(last: u8) -> Addr {
+    Addr::V4([198, 51, 100, last])
 }
 
 /// The n-th packet from 192.0.2.2 to 192.0.2.1, by turns in VXLAN 5000 and 7000. Its frame of 60 octets goes to everybody,

@@ -50,7 +50,7 @@ impl Tally {
 }
 
 /// The endpoint's moment and a second more.
-fn later(endpoint: &Endpoint) -> u64
+pub(crate) fn later(endpoint: &Endpoint) -> u64
     ensures { (state_of endpoint.now).moment ≤ result }
 {
     let now = endpoint.now();

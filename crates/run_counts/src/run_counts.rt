@@ -105,7 +105,7 @@ impl Watch for RunCounts {
 
     ghost ends = { Ends };
 
-    fn see(&mut self, _endpoint: &Endpoint, _number: u64, event: &Event) {
+    fn see(&mut self, _endpoint: &Endpoint, _number: u64, event: &Event, _came: &Course) {
         if let Happening::Record(tap, captured) = &event.happening {
             self.came.add(*tap, captured.octets.len());
             self.partial = partial_with(self.partial, *tap, captured.octets);

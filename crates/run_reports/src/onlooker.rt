@@ -22,10 +22,10 @@ impl<'n, 'a> Watch for Onlooker<'n, 'a> {
 
     ghost ends = { Ended };
 
-    fn see(&mut self, endpoint: &Endpoint, number: u64, event: &Event) {
-        self.reports.see(endpoint, number, event);
+    fn see(&mut self, endpoint: &Endpoint, number: u64, event: &Event, came: &Course) {
+        self.reports.see(endpoint, number, event, came);
         if let Some(counts) = &mut self.counts {
-            counts.see(endpoint, number, event);
+            counts.see(endpoint, number, event, came);
         }
     }
 

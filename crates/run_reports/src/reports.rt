@@ -134,7 +134,7 @@ impl<'n, 'a> Watch for Reports<'n, 'a> {
 
     ghost ends = { λ old state new. TellsOrLoses (ended_by old state) new };
 
-    fn see(&mut self, endpoint: &Endpoint, number: u64, event: &Event) {
+    fn see(&mut self, endpoint: &Endpoint, number: u64, event: &Event, _came: &Course) {
         if !self.is_lost && self.tell(endpoint, number, event).is_err() {
             self.is_lost = true;
         }

@@ -144,7 +144,7 @@ own_about false is = is
 -- settings that look alike to a segment refuse alike what concerns it
 pub refused-same : (vid : ℕ) (S T : Settings) → seen vid S ≡ seen vid T → (c : Change) → is_about vid c || all_see (effect c) ≡ true → refused S c ≡ refused T c
 refused-same vid S T h (AddFlood v addr tunnel) about =
-    ap (λ (x : Seen). in_segment (own_of x) (λ s. at_tunnel (kind_named s.tunnels tunnel) (λ kind. option_map of_flood (first (add_faults (own x.underlay) s.flood kind addr))))) (seen_named vid v S T h (own_about _ about))
+    ap (λ (x : Seen). in_segment (own_of x) (λ s. at_tunnel (kind_named s.tunnels tunnel) (λ kind. option_map of_flood (first (add_faults (own x.underlay) x.underlay.limits.flood s.flood kind addr))))) (seen_named vid v S T h (own_about _ about))
 refused-same vid S T h (RemoveFlood v addr tunnel) about =
     ap (λ (x : Seen). in_segment (own_of x) (λ s. at_tunnel (kind_named s.tunnels tunnel) (λ kind. first ((NotThere, not (holds s.flood kind addr)) ∷ [])))) (seen_named vid v S T h (own_about _ about))
 refused-same vid S T h (Fix v mac target) about =

@@ -7,13 +7,18 @@ use std::alloc::{AllocError, Global};
 /// The sizes of frames: of twelve, seven are short, four middling and one long.
 const SIZES: [usize; 12] = [60, 60, 60, 60, 60, 60, 60, 590, 590, 590, 590, 1400];
 
-/// How many octets of a frame stand before its body.
+/// How many octets of a frame stand before its body, and how many a tag has.
 const HEAD: usize = 22;
+
+const TAG: usize = 4;
 
 /// How many octets there are that bodies are taken of, and how many of them a body may begin behind.
 const POOL: usize = 4096;
 
 const BEGINS: u32 = 2048;
+
+/// The VNI of packets of one segment.
+pub const VNI: u32 = 5000;
 
 /// The number of the station that stands for everybody.
 pub const EVERYBODY: u32 = u32::MAX;
@@ -34,14 +39,17 @@ impl Frame {
         SIZES.as_slice().get(number).copied().unwrap_or(60)
     }
 
-    /// Its addresses, its type and its number.
-    fn head(self) -> [u8; 22] {
+    /// Its addresses.
+    fn addresses(self) -> [u8; 12] {
         let [a, b, c, d, e, f] = station(self.to);
         let [g, h, i, j, k, l] = station(self.from);
-        let [m, n, o, p, q, r, s, t] = self.number.to_le_bytes();
-        [
-            a, b, c, d, e, f, g, h, i, j, k, l, 8, 0, m, n, o, p, q, r, s, t,
-        ]
+        [a, b, c, d, e, f, g, h, i, j, k, l]
+    }
+
+    /// Its type and its number.
+    fn after_addresses(self) -> [u8; 10] {
+        let [a, b, c, d, e, f, g, h] = self.number.to_le_bytes();
+        [8, 0, a, b, c, d, e, f, g, h]
     }
 }
 
@@ -59,6 +67,7 @@ fn station(number: u32) -> [u8; 6] {
 pub struct Outer {
     /// Geneve over IPv6; else VXLAN over IPv4.
     pub is_geneve: bool,
+    pub vni: u32,
     /// The last octets of the addresses of the sender and of the receiver.
     pub from: u8,
     pub to: u8,
@@ -86,11 +95,12 @@ impl Outer {
         let [e, f] = (!folded(sum)).to_be_bytes();
         let [g, h] = self.source_port.to_be_bytes();
         let [i, j] = datagram.to_be_bytes();
+        let [_, k, l, m] = self.vni.to_be_bytes();
         let (limit, from, to) = (self.limit, self.from, self.to);
         [
             2, 0, 0, 0, 0xAA, 1, 2, 0, 0, 0, 0xAA, 2, 8, 0, 0x45, 0, a, b, c, d, 0x40, 0, limit,
-            17, e, f, 192, 0, 2, from, 192, 0, 2, to, g, h, 0x12, 0xB5, i, j, 0, 0, 8, 0, 0, 0, 0,
-            0x13, 0x88, 0,
+            17, e, f, 192, 0, 2, from, 192, 0, 2, to, g, h, 0x12, 0xB5, i, j, 0, 0, 8, 0, 0, 0, k,
+            l, m, 0,
         ]
     }
 
@@ -100,12 +110,13 @@ impl Outer {
             .unwrap_or(u16::MAX)
             .to_be_bytes();
         let [c, d] = self.source_port.to_be_bytes();
+        let [_, e, f, g] = self.vni.to_be_bytes();
         let (limit, from, to) = (self.limit, self.from, self.to);
         [
             2, 0, 0, 0, 0xAA, 1, 2, 0, 0, 0, 0xAA, 2, 0x86, 0xDD, 0x60, 0, 0, 0, a, b, 17, limit,
             0x20, 1, 0x0D, 0xB8, 0, 0, 0, 0, 0, 0, 0, 0, 0, 0, 0, from, 0x20, 1, 0x0D, 0xB8, 0, 0,
-            0, 0, 0, 0, 0, 0, 0, 0, 0, to, c, d, 0x17, 0xC1, a, b, 0, 0, 1, 0, 0x65, 0x58, 0, 0x13,
-            0x88, 0, 1, 2, 7, 0,
+            0, 0, 0, 0, 0, 0, 0, 0, 0, to, c, d, 0x17, 0xC1, a, b, 0, 0, 1, 0, 0x65, 0x58, e, f, g,
+            0, 1, 2, 7, 0,
         ]
     }
 }
@@ -153,9 +164,25 @@ impl Bodies {
         self.put_octets(tape, frame, size);
     }
 
+    /// Puts a frame with the tag of a VLAN as a record.
+    pub fn put_tagged(&self, tape: &mut Tape, moment: u64, vid: u16, frame: Frame) {
+        let size = frame.size();
+        let [high, low] = vid.to_be_bytes();
+        tape.begin_record(moment, size);
+        tape.put(&frame.addresses());
+        tape.put(&[0x81, 0, high, low]);
+        self.put_rest(tape, frame, size.saturating_sub(TAG));
+    }
+
     /// Puts the octets of a frame, so many.
     fn put_octets(&self, tape: &mut Tape, frame: Frame, size: usize) {
-        tape.put(&frame.head());
+        tape.put(&frame.addresses());
+        self.put_rest(tape, frame, size);
+    }
+
+    /// Puts what stands behind the addresses of a frame, and behind its tag where it has one, of so many octets without it.
+    fn put_rest(&self, tape: &mut Tape, frame: Frame, size: usize) {
+        tape.put(&frame.after_addresses());
         let begin = part_of(frame.drawn, 48, BEGINS) as usize;
         let end = begin.saturating_add(size.saturating_sub(HEAD));
         tape.put(self.pool.as_slice().get(begin..end).unwrap_or(&[]));

@@ -3,8 +3,9 @@
 //!
 //! Jobs: `compared`, two captures of a port and two of the underlay, each with what was sent and what was received, compared as
 //! the program does; `piped`, a run over captures that come through pipes, and one over the same as files, which has to write
-//! the same; and `all`, both. SIZE is the number of records that are sent, or of events, in a round. A job prints a digest of all
-//! that its rounds give, and fails where it isn't what the captures were made to give.
+//! the same; and `all`, both; `leaf`, a run of a leaf switch of 64 ports, whose 1,000 segments flood to 128 other leaves. SIZE is
+//! the number of records that are sent, or of events, in a round. A job prints a digest of all that its rounds give, and both
+//! jobs of `all` fail where that isn't what the captures were made to give.
 #![tactic(auto)]
 
 mod compared;
@@ -13,6 +14,7 @@ mod digest;
 mod draws;
 mod fault;
 mod frames;
+mod leaf;
 mod piped;
 mod tape;
 mod way;
@@ -21,6 +23,7 @@ use compared::compared;
 use digest::Digest;
 use draws::Draws;
 use fault::JobFault;
+use leaf::leaf;
 use piped::piped;
 use std::alloc::Global;
 use std::env;
@@ -38,6 +41,7 @@ fn rounds(
     match job {
         "compared" => compared(alloc, digest, draws, count, size),
         "piped" => piped(alloc, digest, draws, count, size),
+        "leaf" => leaf(alloc, digest, draws, count, size),
         _ => Err(JobFault::Words),
     }
 }
@@ -61,8 +65,9 @@ fn perform<R: AllocGlobal + Print>(rt: &R, words: &[String]) -> Result<(), JobFa
     let count = number(words, 2)?;
     let size = number(words, 3)?;
     let seed = number(words, 4)?;
-    for job in ["compared", "piped"] {
-        if asked.as_str() == job || asked.as_str() == "all" {
+    for job in ["compared", "piped", "leaf"] {
+        let is_of_all = job != "leaf";
+        if asked.as_str() == job || is_of_all && asked.as_str() == "all" {
             let mut digest = Digest::new();
             rounds(rt.alloc(), &mut digest, job, Draws::new(seed), count, size)?;
             let word = digest.word();

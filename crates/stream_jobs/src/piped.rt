@@ -4,8 +4,8 @@ use crate::devices::written;
 use crate::digest::Digest;
 use crate::draws::{Draws, part_of};
 use crate::fault::{JobFault, Stage};
-use crate::frames::{Bodies, EVERYBODY, Frame, Outer};
-use crate::tape::Tape;
+use crate::frames::{Bodies, EVERYBODY, Frame, Outer, VNI};
+use crate::tape::{Tape, tapes};
 use std::alloc::{AllocError, Global};
 
 /// How many ports there are.
@@ -48,14 +48,10 @@ impl Traffic {
         let room = (events as usize)
             .saturating_mul(RECORD / 4)
             .saturating_add(100_000);
-        let mut tapes = Vec::new(alloc);
-        for _tape in 0..PORTS + 1 {
-            tapes.push(Tape::new(alloc, room)?)?;
-        }
         Ok(Traffic {
             bodies,
             draws,
-            tapes,
+            tapes: tapes(alloc, PORTS + 1, room)?,
         })
     }
 
@@ -95,6 +91,7 @@ impl Traffic {
         }
         let outer = Outer {
             is_geneve: false,
+            vni: VNI,
             from: 2,
             to: 1,
             limit: 64,

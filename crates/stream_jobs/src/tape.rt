@@ -64,3 +64,12 @@ impl Tape {
         self.put(&[a, b, c, d, e, f, g, h, i, j, k, l, i, j, k, l]);
     }
 }
+
+/// So many, each of so many octets, in which nothing is written.
+pub fn tapes(alloc: Global, count: usize, room: usize) -> Result<Vec<Tape>, AllocError> {
+    let mut tapes = Vec::new(alloc);
+    for _tape in 0..count {
+        tapes.push(Tape::new(alloc, room)?)?;
+    }
+    Ok(tapes)
+}

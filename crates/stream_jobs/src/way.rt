@@ -2,7 +2,7 @@
 //! how many of their records are of one or both.
 
 use crate::draws::{Draws, part_of};
-use crate::frames::{Bodies, Frame, Outer};
+use crate::frames::{Bodies, Frame, Outer, VNI};
 use crate::tape::Tape;
 use std::alloc::{AllocError, Global};
 
@@ -150,6 +150,7 @@ impl Way {
     fn send(&mut self, place: Place, frame: Frame) {
         let outer = Outer {
             is_geneve: frame.number % 2 == 1,
+            vni: VNI,
             from: 1,
             to: 2,
             limit: 64,
@@ -171,6 +172,7 @@ impl Way {
         let [a, b, _, _, _, _, _, _] = frame.number.to_le_bytes();
         let outer = Outer {
             is_geneve: frame.number % 2 == 1,
+            vni: VNI,
             from: 1,
             to: 2,
             limit: 61,

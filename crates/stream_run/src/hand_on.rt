@@ -2,9 +2,9 @@
 //! before the records of its event.
 //!
 //! The lines' block goes on only behind those of all captures: where it has no room for one line more, 4,096 octets with up to
-//! 16 ports and 59,134 with more, all blocks are handed on, the captures' first, behind the event that was taken. So a run that
-//! is killed, or a full disk, leaves no line without its records. It costs one comparison an event. A capture whose own block is
-//! full goes on alone, since records without their line harm nobody.
+//! 16 ports and flood lists of up to 16 remotes and 59,134 with more, all blocks are handed on, the captures' first, behind the
+//! event that was taken. So a run that is killed, or a full disk, leaves no line without its records. It costs one comparison an
+//! event. A capture whose own block is full goes on alone, since records without their line harm nobody.
 //!
 //! Where a read may wait, all blocks go on before each: behind an event whose source's next record wasn't read ahead whole. So
 //! whenever a run waits, everything that was decided stands outside, and a pipe that runs full costs this once for each 64 KiB.
@@ -29,7 +29,6 @@ use crate::outputs::Outputs;
 use crate::part::{Next, Part, Taker};
 use crate::take::take_at;
 use crate::watch::Watch;
-use decision_lines::most_of_a_line;
 use pcap_stream::{Input, Output};
 
 /// How many ports a run has at most.
@@ -125,12 +124,13 @@ fn may_wait_behind<R: Input>(captures: &Captures<R>, index: usize, takes_all: bo
     takes_read(captures, index)
 }
 
-/// Whether all that is held back goes on behind an event of the source with this index: where the next line might find no room
-/// beside those that are held back, or where a read may wait.
+/// Whether all that is held back goes on behind an event of the source with this index: where the next line, of at most so many
+/// octets, might find no room beside those that are held back, or where a read may wait.
 #[inline(always)]
 fn has_to_hand_on<R: Input, W: Output>(
     captures: &Captures<R>,
     outputs: &Outputs<W>,
+    most_of_a_line: usize,
     index: usize,
     takes_all: bool,
 ) -> bool
@@ -138,10 +138,7 @@ fn has_to_hand_on<R: Input, W: Output>(
     ensures before { result ≡ false → IsOutBefore captures.now.may_wait captures.now.ports.items captures.now.underlay index outputs.now }
     ensures behind { result ≡ false → IsOutOrAll takes_all captures.now.may_wait outputs.now }
 {
-    if outputs
-        .decisions
-        .must_hand_on(most_of_a_line(captures.ports.len()))
-    {
+    if outputs.decisions.must_hand_on(most_of_a_line) {
         return true;
     }
     may_wait_behind(captures, index, takes_all)
@@ -178,7 +175,8 @@ pub fn take_and_hand_on<R: Input, W: Output, T: Watch>(
     if let Err(target) = take_at(part, captures, outputs, taker, next, watch) {
         return Err(target);
     }
-    if has_to_hand_on(captures, outputs, next.index, takes_all) {
+    let most = taker.most_of_a_line;
+    if has_to_hand_on(captures, outputs, most, next.index, takes_all) {
         return hand_on_all(outputs);
     }
     Ok(())

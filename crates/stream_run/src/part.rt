@@ -35,4 +35,6 @@ pub struct Next {
 pub struct Taker {
     pub endpoint: Endpoint,
     pub desk: Desk,
+    /// How many octets the line of an event may have, by the ports and by the limit of flood lists, which no change changes.
+    pub most_of_a_line: usize,
 }

@@ -29,7 +29,7 @@ use crate::step::put_events;
 use crate::turn::Turn;
 use crate::watch::Watch;
 use capture_run::{RunFault, of_changes, of_settings};
-use decision_lines::Desk;
+use decision_lines::{Desk, most_of_a_line};
 use endpoint_core::Endpoint;
 use overlay_config::{Settings, TimedChange, changes_of, settings_of};
 use pcap_stream::{Input, Output};
@@ -283,9 +283,11 @@ fn run_with<R: Input, W: Output, S: Sieve, T: Watch>(
     let Ok(endpoint) = Endpoint::open(alloc, settings) else {
         return Err(StreamFault::Run(RunFault::OutOfMemory));
     };
+    let flood = endpoint.under().settings().limits.flood;
     let mut taker = Taker {
         endpoint,
         desk: Desk::new(),
+        most_of_a_line: most_of_a_line(captures.ports.len(), flood),
     };
     run_on(
         part,

@@ -1,10 +1,12 @@
 //! Events as the endpoint takes them: a change, a frame, a packet.
-ghost use Rattle.std.specs.Prelude.{◌≡◌, ◌≤◌, ◌<◌, ◌+◌, ◌^◌, List, Some, None, IfOk, IsSome, length, true};
+ghost use Rattle.std.specs.Prelude.{◌≡◌, ◌≤◌, ◌<◌, ◌+◌, ◌^◌, List, Result, Some, None, IfOk, IsSome, length, true};
+ghost use Rattle.frame_view.specs.declared.reason.Refused.{Refused};
 ghost use Rattle.pcap_io.specs.Record.{Record as ARecord, last_moment};
 ghost use Rattle.pcap_stream.specs.Source.{Stream, lent};
 ghost use Rattle.timeline.specs.declared.source.Tap.{Tap as ATap};
 ghost use Rattle.timeline.specs.declared.source.Tap.TheVariants.{Port, Underlay};
 ghost use Rattle.endpoint_state.specs.Change.{named};
+ghost use Rattle.endpoint_core.specs.Came.{Came as ACame};
 ghost use Rattle.endpoint_core.specs.Event.{change_at, frame_at, packet_at};
 ghost use Rattle.endpoint_core.specs.Kept.{state_of};
 ghost use Rattle.endpoint_core.specs.Among.{after_among};
@@ -15,7 +17,7 @@ ghost use Rattle.endpoint_state.specs.State.{aged};
 ghost use Rattle.capture_run.specs.Outputs.{Outputs as Texts, change_at as change_told};
 ghost use Rattle.capture_run.specs.Writing.{with_input};
 ghost use Rattle.stream_run.specs.Amidst.{PutsInOrder};
-ghost use Rattle.stream_run.specs.Sights.{answered, due};
+ghost use Rattle.stream_run.specs.Sights.{IsBrought, answered, due};
 ghost use Rattle.stream_run.specs.Stage.{Drains, Lead, StandAt};
 ghost use Rattle.stream_run.specs.Steps.{IsAt, changes_of, moment_at, seen_among, with_input_among, record_event, source_at};
 ghost use Rattle.stream_run.specs.Watched.{IsWatchedTake};
@@ -42,7 +44,8 @@ pub fn take_change<W: Output, T: Watch>(
     change: Change,
     watch: &mut T,
 ) -> Result<(), Target>
-    requires { (state_of endpoint.old).moment ≤ event.now.moment }
+    requires time { (state_of endpoint.old).moment ≤ event.now.moment }
+    requires kind { (came : Result ACame Refused) → IsBrought (state_of endpoint.old).bridges.settings event.now.happening came }
     ensures state { state_of endpoint.new ≡ after (state_of endpoint.old) (change_at event.now.moment change) }
     ensures outputs { (start : Drains) (o : Texts) → StandAt start outputs.old o
         → Lead start outputs.new o
@@ -52,7 +55,7 @@ pub fn take_change<W: Output, T: Watch>(
     ensures seen { T.sees watch.old (answered (due (state_of endpoint.old) desk.old.number event.now)
         (answer (state_of endpoint.old) (change_at event.now.moment change))) watch.new }
 {
-    watch.see(endpoint, desk.number.value(), event);
+    watch.see(endpoint, desk.number.value(), event, &nothing_came());
     let asked = change;
     let reply = endpoint.change(event.moment, asked);
     watch.hear_reply(reply);
@@ -76,6 +79,7 @@ fn take_came<W: Output, T: Watch>(
     requires there { IfOk course.old (λ x. IsSome (segment_at (state_of endpoint.old).bridges.settings x.vid)) }
     requires short { IfOk course.old (λ x. length x.frame.body ≤ 65549) }
     requires reached { IfOk course.old (λ x. is_reached (state_of endpoint.old).bridges.settings.overlay x.vid x.from ≡ true) }
+    requires brought { IsBrought (state_of endpoint.old).bridges.settings event.now.happening course.old }
     ensures state { state_of endpoint.new ≡ after_coming event.now.moment course.old (state_of endpoint.old) }
     ensures outputs { (start : Drains) (o : Texts)
         → StandAt start outputs.old o
@@ -91,7 +95,7 @@ fn take_came<W: Output, T: Watch>(
         (Decided (decided event.now.moment (aged event.now.moment (state_of endpoint.old).bridges) course.old))) watch.new }
 {
     let number = desk.number.value();
-    watch.see(endpoint, number, event);
+    watch.see(endpoint, number, event, course);
     endpoint.take(event.moment, course, &mut desk.places);
     watch.hear_decision(endpoint, course, desk.places.as_slice());
     put_course(outputs, endpoint, desk, event, course)

@@ -3,13 +3,13 @@
 //! A [`Watch`] says by relations what one event makes of it (`sees`), and what the end does (`ends`), since a list of all that
 //! was seen would grow with the captures. A run says that these relations hold one after another, over the events in order,
 //! each with the state that it found and the answer that it got. An event is shown before it is taken and its answer told
-//! behind, so there is a state between (`expects`).
+//! behind, so there is a state between (`expects`). It is shown with the frame that it brings, which the run knows already.
 ghost use Rattle.std.specs.Prelude.{◌≡◌};
 ghost use Rattle.frame_view.specs.First.{fault_of};
 ghost use Rattle.endpoint_core.specs.Course.{CanLeave, IsShortFrame, IsThere, decision_of};
 ghost use Rattle.endpoint_core.specs.Kept.{state_of};
 ghost use Rattle.endpoint_core.specs.Step.{Decided, Replied, State};
-ghost use Rattle.stream_run.specs.Sights.{Due, Sight, answered, due, untold};
+ghost use Rattle.stream_run.specs.Sights.{Due, IsBrought, Sight, answered, due, untold};
 
 use endpoint_core::{ChangeFault, Course, Endpoint};
 use filter_db::Place;
@@ -29,9 +29,10 @@ pub trait Watch {
     /// From the first state, the end, at which the endpoint stands so, leaves the second.
     ghost ends: { Self → State → Self → Type 0 };
 
-    /// An event comes, which is taken next: the endpoint as it stands before, and the event's number in the run, from 1,
-    /// as its decision line has it.
-    fn see(&mut self, endpoint: &Endpoint, number: u64, event: &Event)
+    /// An event comes, which is taken next: the endpoint as it stands before, the event's number in the run, from 1, as its
+    /// decision line has it, and the frame that it brings to a segment, or why it brings none; of a change that says nothing.
+    fn see(&mut self, endpoint: &Endpoint, number: u64, event: &Event, came: &Course)
+        requires { IsBrought (state_of endpoint.now).bridges.settings event.now.happening came.now }
         ensures { expects self.old (due (state_of endpoint.now) number event.now) self.new };
 
     /// The frame or the packet that was seen last was taken: the endpoint as it stands behind it, and where the frame goes,
@@ -69,7 +70,7 @@ impl Watch for Unwatched {
     ghost ends = { λ old state new. new ≡ old };
 
     #[inline]
-    fn see(&mut self, _endpoint: &Endpoint, _number: u64, _event: &Event) {}
+    fn see(&mut self, _endpoint: &Endpoint, _number: u64, _event: &Event, _came: &Course) {}
 
     #[inline]
     fn hear_decision(&mut self, _endpoint: &Endpoint, _course: &Course, _places: &[Place]) {}

@@ -3,6 +3,7 @@ ghost use Rattle.std.specs.Prelude.{◌≡◌, IfOk};
 ghost use Rattle.endpoint_core.specs.Course.{CanLeave, IsThere, decision_of};
 ghost use Rattle.endpoint_core.specs.Kept.{state_of};
 ghost use Rattle.endpoint_core.specs.Step.{Decided};
+ghost use Rattle.stream_run.specs.Sights.{IsBrought};
 ghost use Rattle.talkers.specs.Lines.{talks_text};
 ghost use Rattle.talkers.specs.Talkers.{answer_told, exit_of, exit_to, expecting, no_talkers, rows_told, talk_rows};
 
@@ -66,8 +67,8 @@ impl Watch for Talkers {
 
     ghost ends = { λ old state new. new ≡ old };
 
-    fn see(&mut self, endpoint: &Endpoint, _number: u64, event: &Event) {
-        self.expect(endpoint, event);
+    fn see(&mut self, endpoint: &Endpoint, _number: u64, event: &Event, came: &Course) {
+        self.expect(endpoint, event, came);
     }
 
     fn hear_decision(&mut self, endpoint: &Endpoint, course: &Course, places: &[Place]) {
@@ -83,10 +84,17 @@ impl Watch for Talkers {
 
 impl Talkers {
     /// Keeps the frame that an event brings.
-    fn expect(&mut self, endpoint: &Endpoint, event: &Event)
+    fn expect(&mut self, endpoint: &Endpoint, event: &Event, came: &Course)
+        requires { IsBrought (state_of endpoint.now).bridges.settings event.now.happening came.now }
         ensures { self.new ≡ expecting self.old (state_of endpoint.now).bridges.settings event.now.moment event.now.happening }
     {
-        keep_coming(endpoint, event.moment, &event.happening, &mut self.coming);
+        keep_coming(
+            endpoint,
+            event.moment,
+            &event.happening,
+            came,
+            &mut self.coming,
+        );
     }
 
     /// Counts the frame that is kept, where it goes.

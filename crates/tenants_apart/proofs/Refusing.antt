@@ -31,7 +31,7 @@ port_refused port x = port_fault (length x.ports) port
 -- a change of the segment's own or of a port is refused alike, where it is if it needs room
 pub refused-own : (vid : ℕ) (S T : Settings) → part_of vid S ≡ part_of vid T → (c : Change) → is_about vid c ≡ true → (asks_room vid c ≡ true → refused S c ≡ refused T c) → refused S c ≡ refused T c
 refused-own vid S T h (AddFlood v addr tunnel) about room =
-    ap (λ (x : Part). in_segment (whole_of x) (λ s. at_tunnel (kind_named s.tunnels tunnel) (λ kind. option_map of_flood (first (add_faults (own x.underlay) s.flood kind addr))))) (part-named vid v S T h about)
+    ap (λ (x : Part). in_segment (whole_of x) (λ s. at_tunnel (kind_named s.tunnels tunnel) (λ kind. option_map of_flood (first (add_faults (own x.underlay) x.underlay.limits.flood s.flood kind addr))))) (part-named vid v S T h about)
 refused-own vid S T h (RemoveFlood v addr tunnel) about room =
     ap (λ (x : Part). in_segment (whole_of x) (λ s. at_tunnel (kind_named s.tunnels tunnel) (λ kind. first ((NotThere, not (holds s.flood kind addr)) ∷ [])))) (part-named vid v S T h about)
 refused-own vid S T h (Fix v mac target) about room =

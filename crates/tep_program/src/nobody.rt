@@ -19,7 +19,7 @@ impl Watch for Nobody {
     ghost ends = { λ old state new. new ≡ old };
 
     #[inline]
-    fn see(&mut self, _endpoint: &Endpoint, _number: u64, _event: &Event) {}
+    fn see(&mut self, _endpoint: &Endpoint, _number: u64, _event: &Event, _came: &Course) {}
 
     #[inline]
     fn hear_decision(&mut self, _endpoint: &Endpoint, _course: &Course, _places: &[Place]) {}

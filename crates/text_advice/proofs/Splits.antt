@@ -1,5 +1,5 @@
 -- All parts of a text, one cut after the other.
-use Rattle.std.proofs.Common.{◌≡◌, ℕ, ◌+◌, List, [], ◌∷◌, ◌++◌, Option, Some, None, option_map, ◌==◌, true, false, if◌then◌else◌, refl, sym, ap, ◌∙◌, append_assoc}
+use Rattle.std.proofs.Common.{◌≡◌, ℕ, List, [], ◌∷◌, ◌++◌, Option, Some, None, option_map, ◌==◌, true, false, if◌then◌else◌, refl, sym, ap, ◌∙◌, append_assoc}
 use Rattle.config_text.specs.Address.{cut}
 use Rattle.text_advice.specs.Split.{split, onto}
 

@@ -1,11 +1,12 @@
--- What is allowed under each key, by the sentences that src/allowed.rt has. It states no standard.
+-- What is allowed under each key, by the sentences that src/allowed.rt and src/allowed_changes.rt have. It states no standard.
 use Rattle.std.specs.Prelude.{ℕ, List, [], ◌∷◌, map, ◌&&◌, Option, Some, None, if◌then◌else◌}
 use Rattle.text_advice.specs.Line.{same}
 use Rattle.text_advice.specs.Known.{fits}
 use Rattle.std.specs.Borrow.{Bor}
 use Rattle.text_advice.specs.declared.known.TextKind.{TextKind}
 use Rattle.text_advice.specs.declared.known.TextKind.TheVariants.{Settings, Changes}
-use Rattle.text_advice.specs.declared.allowed.TheConstants.{SETTINGS_SENTENCES, CHANGE_SENTENCES}
+use Rattle.text_advice.specs.declared.allowed.TheConstants.{SETTINGS_SENTENCES}
+use Rattle.text_advice.specs.declared.allowed_changes.TheConstants.{CHANGE_SENTENCES}
 
 -- what is allowed under the keys of a path, where the text has a variant of this name, for a fault
 pub record Row : Type 0 where

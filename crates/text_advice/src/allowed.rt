@@ -2,6 +2,7 @@
 ghost use Rattle.std.specs.Prelude.{◌≡◌, map, option_map};
 ghost use Rattle.text_advice.specs.Allowed.{sentence_row_of, sentence_in, sentence_of};
 
+use crate::allowed_changes::CHANGE_SENTENCES;
 use crate::known::{TextKind, fits};
 
 /// The path of a key without the numbers of tables; the version of the text, or nothing for any other; the fault that the
@@ -10,7 +11,7 @@ use crate::known::{TextKind, fits};
 pub type Sentence = (&'static str, &'static str, &'static str, &'static str);
 
 /// What is allowed under each key of settings.
-pub const SETTINGS_SENTENCES: [Sentence; 61] = [
+pub const SETTINGS_SENTENCES: [Sentence; 67] = [
     (
         "version",
         "",
@@ -50,6 +51,13 @@ pub const SETTINGS_SENTENCES: [Sentence; 61] = [
     ("limits", "", "", "one table, headed [limits]"),
     ("limits.ports", "", "", "a number, 1 to 255"),
     ("limits.segments", "", "", "a number, 1 to 4094"),
+    (
+        "limits.flood",
+        "",
+        "OverLimit ",
+        "limits.segments times limits.flood is 1048576 at most",
+    ),
+    ("limits.flood", "", "", "a number, 1 to 512"),
     ("limits.hops", "", "", "a number, 1 to 4096"),
     ("limits.entries", "", "", "a number, 1 to 131072"),
     ("limits.addresses", "", "", "a number, 1 to 1048576"),
@@ -203,6 +211,24 @@ pub const SETTINGS_SENTENCES: [Sentence; 61] = [
     ("segment.tunnel.group", "", "", "a number, 0 to 255"),
     (
         "segment.tunnel.flood",
+        "3",
+        "OverLimit ",
+        "a list of addresses in quotes, groups too, at most 16 over both tables, or as many as limits.flood says where it is given, none twice, none 0.0.0.0, 255.255.255.255, ::, an own address, or of a family without an own address; limits.flood raises it, up to 512",
+    ),
+    (
+        "segment.tunnel.flood",
+        "",
+        "OverLimit ",
+        "a list of addresses in quotes, groups too, at most 16 over both tables, none twice, none 0.0.0.0, 255.255.255.255, ::, an own address, or of a family without an own address; version 3 with limits.flood raises it",
+    ),
+    (
+        "segment.tunnel.flood",
+        "3",
+        "",
+        "a list of addresses in quotes, groups too, at most 16 over both tables, or as many as limits.flood says where it is given, none twice, none 0.0.0.0, 255.255.255.255, ::, an own address, or of a family without an own address",
+    ),
+    (
+        "segment.tunnel.flood",
         "",
         "",
         "a list of addresses in quotes, groups too, at most 16 over both tables, none twice, none 0.0.0.0, 255.255.255.255, ::, an own address, or of a family without an own address",
@@ -244,118 +270,15 @@ pub const SETTINGS_SENTENCES: [Sentence; 61] = [
     (
         "segment.flood",
         "",
+        "OverLimit ",
+        "a list of at most 16 addresses in quotes, groups too, none twice, none 0.0.0.0, 255.255.255.255, ::, an own address, or of a family without an own address; version 3 with limits.flood raises it",
+    ),
+    (
+        "segment.flood",
+        "",
         "",
         "a list of at most 16 addresses in quotes, groups too, none twice, none 0.0.0.0, 255.255.255.255, ::, an own address, or of a family without an own address",
     ),
-];
-
-/// What is allowed under each key of changes.
-pub const CHANGE_SENTENCES: [Sentence; 25] = [
-    (
-        "version",
-        "",
-        "",
-        "the number 2, for up to 100000 tables; or no version, for up to 10000",
-    ),
-    (
-        "change",
-        "",
-        "NotRising ",
-        "a moment not below that of the change before",
-    ),
-    (
-        "change",
-        "2",
-        "",
-        "at most 100000 tables, each headed [[change]]",
-    ),
-    (
-        "change",
-        "",
-        "OverLimit ",
-        "at most 10000 tables, each headed [[change]]; version = 2 raises it to 100000",
-    ),
-    (
-        "change",
-        "",
-        "",
-        "at most 10000 tables, each headed [[change]]",
-    ),
-    (
-        "change.kind",
-        "",
-        "",
-        "\"add_flood\", \"remove_flood\", \"fix\", \"unfix\", \"set_ageing\", \"set_learning\", \"set_member\", \"port_up\", \"port_down\", \"flush\", \"add_segment\", \"remove_segment\" or \"set_limit\"",
-    ),
-    (
-        "change.at",
-        "",
-        "",
-        "a number of nanoseconds, 0 to 4294967295999999999",
-    ),
-    ("change.vid", "", "", "a number, 1 to 4094"),
-    (
-        "change.addr",
-        "",
-        "",
-        "an address in quotes, as \"192.0.2.2\" or \"2001:db8::2\"",
-    ),
-    (
-        "change.tunnel",
-        "",
-        "",
-        "\"vxlan\" or \"geneve\"; in a fix beside remote alone",
-    ),
-    (
-        "change.mac",
-        "",
-        "",
-        "a MAC address in quotes, as \"02:00:00:00:00:01\"",
-    ),
-    (
-        "change.port",
-        "",
-        "",
-        "a number, 0 to 255; in a fix one of port and remote",
-    ),
-    (
-        "change.remote",
-        "",
-        "",
-        "an address in quotes, as \"192.0.2.2\" or \"2001:db8::2\"; in a fix one of port and remote",
-    ),
-    (
-        "change.seconds",
-        "",
-        "",
-        "a number of seconds, 0 to 4294967295",
-    ),
-    ("change.on", "", "", "true or false"),
-    (
-        "change.egress",
-        "",
-        "",
-        "\"tagged\", \"untagged\" or \"none\"",
-    ),
-    ("change.vni", "", "", "a number, 0 to 16777215"),
-    ("change.group", "", "", "a number, 0 to 255"),
-    ("change.vni2", "", "", "a number, 0 to 16777215"),
-    (
-        "change.group2",
-        "",
-        "",
-        "a number, 0 to 255; beside vni2 alone",
-    ),
-    ("change.limit", "", "", "a number, 0 to 4294967295"),
-    (
-        "change.ageing",
-        "",
-        "",
-        "a number of seconds, 0 to 4294967295",
-    ),
-    ("change.learn", "", "", "true or false"),
-    ("change.peers", "", "", "\"any\" or \"listed\""),
-    ("change.tags", "", "", "\"drop\", \"pass\" or \"never\""),
 ];
 
 /// The first sentence of this path that is for the variant and for the fault, or for any.

@@ -24,7 +24,7 @@ pub const SETTINGS_KEYS: [TableKeys; 11] = [
     (
         "limits.*",
         "",
-        &["ports", "segments", "hops", "entries", "addresses"],
+        &["ports", "segments", "flood", "hops", "entries", "addresses"],
     ),
     (
         "underlay.*",

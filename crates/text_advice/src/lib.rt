@@ -20,6 +20,7 @@
 #![tactic(auto)]
 
 mod allowed;
+mod allowed_changes;
 mod block;
 mod known;
 mod line;
@@ -32,7 +33,8 @@ mod split;
 mod syntax;
 mod told;
 
-pub use allowed::{CHANGE_SENTENCES, SETTINGS_SENTENCES, Sentence};
+pub use allowed::{SETTINGS_SENTENCES, Sentence};
+pub use allowed_changes::CHANGE_SENTENCES;
 pub use known::{CHANGE_KEYS, SETTINGS_KEYS, TableKeys, TextKind};
 pub use report::advice;
 pub use syntax::{SyntaxError, syntax_error_at};

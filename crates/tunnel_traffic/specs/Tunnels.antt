@@ -10,8 +10,6 @@ use Rattle.frame_view.specs.Reason.{number_of}
 use Rattle.frame_view.specs.declared.reason.Reason.{Reason}
 use Rattle.frame_view.specs.declared.reason.Reason.TheVariants.{UnknownVni}
 use Rattle.frame_view.specs.declared.reason.Refused.{Refused}
-use Rattle.ip_udp_view.specs.declared.addr.Addr.{Addr}
-use Rattle.ip_udp_view.specs.declared.addr.Tunnel.{Tunnel}
 use Rattle.filter_db.specs.declared.place.Place.{Place}
 use Rattle.filter_db.specs.declared.place.Place.TheVariants.{Local, Remote}
 use Rattle.underlay.specs.Overlay.{Overlay}
@@ -23,7 +21,7 @@ use Rattle.endpoint_core.specs.Came.{Came}
 use Rattle.endpoint_core.specs.Decision.{Sent}
 use Rattle.endpoint_core.specs.Step.{Answer, Decided, Replied}
 use Rattle.stream_run.specs.Sights.{Due, Sight}
-use Rattle.traffic_rows.specs.Rows.{Rows, counted_all, no_rows, row_of}
+use Rattle.traffic_rows.specs.Rows.{counted_all, row_of}
 use Rattle.traffic_rows.specs.Traffic.{came_of, left_of}
 use Rattle.traffic_rows.specs.declared.key.TunnelKey.{TunnelKey}
 use Rattle.traffic_rows.specs.declared.rows.TrafficRow.{TrafficRow}

@@ -22,10 +22,10 @@ impl<W: Watch> Watch for Beside<W> {
 
     ghost ends = { λ old state new. W.ends old.watch state new.watch × Counting (λ x y. y ≡ x) old.tunnels new.tunnels };
 
-    fn see(&mut self, endpoint: &Endpoint, number: u64, event: &Event) {
-        self.watch.see(endpoint, number, event);
+    fn see(&mut self, endpoint: &Endpoint, number: u64, event: &Event, came: &Course) {
+        self.watch.see(endpoint, number, event, came);
         if let Some(tunnels) = &mut self.tunnels {
-            tunnels.see(endpoint, number, event);
+            tunnels.see(endpoint, number, event, came);
         }
     }
 

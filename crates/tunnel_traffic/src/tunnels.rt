@@ -4,9 +4,9 @@ ghost use Rattle.std.specs.List.{flat_map, list_all};
 ghost use Rattle.endpoint_core.specs.Course.{CanLeave, IsThere, decision_of};
 ghost use Rattle.endpoint_core.specs.Kept.{state_of};
 ghost use Rattle.endpoint_core.specs.Step.{Decided, sent_at};
-ghost use Rattle.endpoint_core.specs.Arrival.{came_by};
 ghost use Rattle.endpoint_state.specs.Settings.{segment_at};
 ghost use Rattle.endpoint_state.specs.Step.{can_leave};
+ghost use Rattle.stream_run.specs.Sights.{IsBrought};
 ghost use Rattle.timeline.specs.declared.event.Happening.TheVariants.{Record};
 ghost use Rattle.traffic_rows.specs.Rows.{counted_all};
 ghost use Rattle.traffic_rows.specs.Traffic.{came_of};
@@ -75,10 +75,10 @@ impl Watch for TunnelTraffic {
 
     ghost ends = { λ old state new. new ≡ old };
 
-    fn see(&mut self, endpoint: &Endpoint, _number: u64, event: &Event) {
+    fn see(&mut self, endpoint: &Endpoint, _number: u64, event: &Event, came: &Course) {
         match &event.happening {
             Happening::Change(_) => {}
-            Happening::Record(tap, captured) => self.count_record(endpoint, *tap, captured),
+            Happening::Record(tap, captured) => self.count_record(endpoint, *tap, captured, came),
         }
     }
 
@@ -104,21 +104,21 @@ impl TunnelTraffic {
     }
 
     /// Counts what a record is before its answer.
-    fn count_record(&mut self, endpoint: &Endpoint, tap: Tap, captured: &Captured)
+    fn count_record(&mut self, endpoint: &Endpoint, tap: Tap, captured: &Captured, came: &Course)
+        requires { IsBrought (state_of endpoint.now).bridges.settings (Record tap captured.now) came.now }
         ensures { self.new ≡ came_told self.old (state_of endpoint.now).bridges.settings.overlay (Record tap captured.now) }
     {
         match tap {
             Tap::Port(_) => {}
-            Tap::Underlay => self.count_packet(endpoint, captured.original, captured.octets),
+            Tap::Underlay => self.count_packet(endpoint, captured.octets, came),
         }
     }
 
     /// Counts what a packet of the underlay is before its answer.
-    fn count_packet(&mut self, endpoint: &Endpoint, original: u32, octets: &[u8])
-        ensures { let overlay = (state_of endpoint.now).bridges.settings.overlay in
-            self.new ≡ packet_told self.old overlay octets.now (came_by overlay original octets.now) }
+    fn count_packet(&mut self, endpoint: &Endpoint, octets: &[u8], came: &Course)
+        ensures { self.new ≡ packet_told self.old (state_of endpoint.now).bridges.settings.overlay octets.now came.now }
     {
-        match endpoint.frame_in(original, octets) {
+        match came {
             Ok(came) => count_at(
                 &mut self.remotes,
                 came.place(),

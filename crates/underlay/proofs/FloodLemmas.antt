@@ -1,7 +1,9 @@
 -- What a change of a segment's flood list leaves.
-use Rattle.std.proofs.Common.{◌≡◌, ◌<◌, ℕ, true, List, [], length, get_or, set, Option, Some, None, Result, Ok, Err, refl, sym, ap, ◌∙◌, subst}
+use Rattle.std.proofs.Common.{◌≡◌, ◌<◌, ℕ, true, cond, eqb, inl, inr, List, [], length, get_or, set, Option, Some, None, Result, Ok, Err, refl, sym, ap, ◌∙◌, subst}
+use Rattle.std.proofs.lemmas.Bool.{cases_eq, cond-true, cond-false, eq-eqb, ne_eqb}
 use Rattle.std.proofs.lemmas.List.{length-set}
-use Rattle.std.specs.Prelude.{OnOk, is_some}
+use Rattle.vlan_ports.proofs.PlacesLemmas.{get-insert_at, same_maps}
+use Rattle.std.specs.Prelude.{OnErr, OnOk, is_ok, is_some}
 use Rattle.std.specs.Option.{option_map_or}
 use Rattle.std.specs.FinMap.{get, insert}
 use Rattle.underlay.specs.declared.places.Row.{Row}
@@ -15,6 +17,23 @@ use Rattle.underlay.proofs.SeatLemmas.{Keeps, leads-within, read_at, there_at, r
 put-flooding : (m : Segments) (vid : ℕ) (g : Segment) (flood : Entries) → get m vid ≡ Some g → insert m vid (record g { flood = flood }) ≡ flooding m vid flood
 put-flooding m vid g flood there = sym (ap (λ (x : Option Segment). option_map_or (λ h. insert m vid (record h { flood = flood })) x m) there)
 
+-- a segment with the flood list that it has
+pub flooding_same : (m : Segments) (vid : ℕ) → flooding m vid (flood_in m vid) ≡ m
+flooding_same m vid = by (get m vid) refl
+  where
+    by : (x : Option Segment) → get m vid ≡ x → flooding m vid (flood_in m vid) ≡ m
+    by None none = ap (λ (y : Option Segment). option_map_or (λ g. insert m vid (record g { flood = flood_in m vid })) y m) none
+    by (Some g) there =
+        ap (λ (y : Option Segment). option_map_or (λ h. insert m vid (record h { flood = flood_in m vid })) y m) there
+        ∙ ap (λ (y : Option Segment). insert m vid (record g { flood = option_map_or (λ k. k.flood) y [] })) there
+        ∙ same_maps (insert m vid g) m (λ q. get-insert_at m vid g q ∙ as_before q)
+      where
+        as_before : (q : ℕ) → cond (eqb q vid) (Some g) (get m q) ≡ get m q
+        as_before q = elim (cases_eq q vid) [
+          | inl same ↦ cond-true (eqb q vid) (Some g) (get m q) (eq-eqb q vid same) ∙ sym there ∙ ap (λ (i : ℕ). get m i) (sym same)
+          | inr ne ↦ cond-false (eqb q vid) (Some g) (get m q) (ne_eqb q vid ne)
+        ]
+
 pub on_ok : {A E P Q : Type 0} (r s : Result A E) → r ≡ s → OnOk s P → (P → Q) → OnOk r Q
 on_ok {A = A} {E = E} {P = P} {Q = Q} r s same holds then = subst (λ (x : Result A E). OnOk x Q) (sym same) (at s holds)
   where
@@ -22,9 +41,20 @@ on_ok {A = A} {E = E} {P = P} {Q = Q} r s same holds then = subst (λ (x : Resul
     at (Ok a) h = then h
     at (Err e) h = tt
 
+-- an answer that is one where another one is
+pub on_ok_as : {A B E P Q : Type 0} (r : Result A E) (s : Result B E) → is_ok r ≡ is_ok s → OnOk s P → (P → Q) → OnOk r Q
+on_ok_as (Ok a) (Ok b) same holds then = then holds
+on_ok_as (Ok a) (Err e) same holds then = absurd cc
+on_ok_as (Err e) s same holds then = tt
+
+pub on_err_as : {A B E P Q : Type 0} (r : Result A E) (s : Result B E) → is_ok r ≡ is_ok s → OnErr s P → (P → Q) → OnErr r Q
+on_err_as (Err e) (Err f) same holds then = then holds
+on_err_as (Err e) (Ok b) same holds then = absurd cc
+on_err_as (Ok a) s same holds then = tt
+
 -- what rows and an index show
-abbrev pub shown : List (Option Row) → List (Option ℕ) → Seats
-shown rows index = record { segments = seated (λ r. r.segment) rows index; heads = seated (λ r. r.heads) rows index; most = length rows }
+abbrev pub shown : ℕ → List (Option Row) → List (Option ℕ) → Seats
+shown flood rows index = record { segments = seated (λ r. r.segment) rows index; heads = seated (λ r. r.heads) rows index; most = length rows; flood = flood }
 
 -- a row with another flood list
 abbrev pub with_list : Row → Entries → Row
@@ -39,7 +69,7 @@ pub record Flooded (seats : Seats) (rows : List (Option Row)) (index : List (Opt
   pub most : length (set rows p (Some (with_list old flood))) ≡ seats.most
 
 -- a segment that is there: what the index says for its VID, as it is read, and what stands at that place
-module _ (seats : Seats) (rows : List (Option Row)) (index : List (Option ℕ)) (vid i : ℕ) (x : Option ℕ) (show : shown rows index ≡ seats)
+module _ (seats : Seats) (most : ℕ) (rows : List (Option Row)) (index : List (Option ℕ)) (vid i : ℕ) (x : Option ℕ) (show : shown most rows index ≡ seats)
     (read : x ≡ get_or index i x) (same : i ≡ vid) (lt : vid < length index) where
   pub has_place : is_some (get seats.segments vid) ≡ true → is_some x ≡ true
   has_place there = there_at (λ r. r.segment) rows index vid x (read_at index i vid x read same lt) (ap (λ (s : Seats). is_some (get s.segments vid)) show ∙ there)

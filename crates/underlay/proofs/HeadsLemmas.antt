@@ -22,8 +22,8 @@ map_cond : {A B : Type 0} (f : A → B) (b : Bool) (x y : Option A) → cond b (
 map_cond f true x y = refl
 map_cond f false x y = refl
 
-pub heads-nothing : (U : Underlay) (s : Seats) (most : ℕ) → s ≡ record { segments = empty; heads = empty; most = most } → AreHeads U s
-heads-nothing U s most is vid =
+pub heads-nothing : (U : Underlay) (s : Seats) (most flood : ℕ) → s ≡ record { segments = empty; heads = empty; most = most; flood = flood } → AreHeads U s
+heads-nothing U s most flood is vid =
     ap (λ (x : Seats). get x.heads vid) is ∙ get-empty nat_cmp vid
     ∙ sym (ap (λ (x : Seats). option_map (heads_by U) (get x.segments vid)) is ∙ ap (option_map (heads_by U)) (get-empty nat_cmp vid))
 

@@ -4,6 +4,7 @@ pub mod HeadsLemmas
 pub mod HopsLemmas
 pub mod IndexLemmas
 pub mod RoomLemmas
+pub mod RoomsLemmas
 pub mod SearchLemmas
 pub mod SeatLemmas
 pub mod ToldLemmas

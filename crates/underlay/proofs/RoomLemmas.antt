@@ -11,6 +11,6 @@ same_listed vids new most old same room =
     ∙ ap (λ (n : ℕ). let l : Listed = record { vids = new; most = n } in l) room
 
 -- there is as much room as before
-pub room_stays : (most : ℕ) (s n : Seats) (v w g h : Listed) → HasRoomFor most s v g → n.most ≡ s.most → w.most ≡ v.most → h.most ≡ g.most → HasRoomFor most n w h
-room_stays most s n v w g h room seats vxlan geneve =
-    record { rows = seats ∙ room.rows; vxlan_places = vxlan ∙ room.vxlan_places; geneve_places = geneve ∙ room.geneve_places }
+pub room_stays : (most flood : ℕ) (s n : Seats) (v w g h : Listed) → HasRoomFor most flood s v g → n.most ≡ s.most → n.flood ≡ s.flood → w.most ≡ v.most → h.most ≡ g.most → HasRoomFor most flood n w h
+room_stays most flood s n v w g h room seats lists vxlan geneve =
+    record { rows = seats ∙ room.rows; lists = lists ∙ room.lists; vxlan_places = vxlan ∙ room.vxlan_places; geneve_places = geneve ∙ room.geneve_places }

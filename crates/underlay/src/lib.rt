@@ -22,6 +22,7 @@ mod heads;
 mod hops;
 mod limits;
 mod places;
+mod rooms;
 mod segment;
 mod settings;
 mod tunnels;

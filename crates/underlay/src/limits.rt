@@ -7,6 +7,8 @@ pub struct Limits {
     pub ports: u8,
     /// The most segments, 1 to 4,094: 256 unless the settings say otherwise.
     pub segments: u16,
+    /// The most remotes of a segment's flood list, over all its tunnels, 1 to 512: 16 unless the settings say otherwise.
+    pub flood: u16,
     /// The most exceptions from the next hop, 1 to 4,096: 64 unless the settings say otherwise.
     pub hops: u16,
     /// The most entries that a segment's table may have, 1 to 131,072: 8,192 unless the settings say otherwise.

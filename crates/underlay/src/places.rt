@@ -1,19 +1,20 @@
 //! The segments by their VIDs.
 //!
-//! The large rows (688 octets) stand behind an index. What else an endpoint keeps for each VID stands in lists of 4,096:
+//! The large rows (712 octets) stand behind an index. What else an endpoint keeps for each VID stands in lists of 4,096:
 //! members (16 octets a VID for each 64 ports), shares of the tables (48), learning (1) and counts (328). These and the rows
 //! here have no type of their own in common: it would put the index's load before each look-up of a step, and share some twenty
 //! lines of look-ups.
-ghost use Rattle.std.specs.Prelude.{◌≡◌, ◌≤◌, ◌<◌, ◌++◌, ◌∷◌, [], get_or, IfOk, IsTrue, None, is_ok, is_some, length, OnOk, OnErr};
+ghost use Rattle.std.specs.Prelude.{◌≡◌, ◌≤◌, ◌<◌, ◌||◌, ◌++◌, ◌∷◌, [], get_or, IfOk, IsTrue, None, is_ok, is_some, length, OnOk, OnErr};
 ghost use Rattle.std.specs.Option.{option_copied, option_map};
 ghost use Rattle.std.specs.FinMap.{empty, get, insert, remove, len};
 ghost use Rattle.underlay.specs.Flood.{first, fault_of, add_faults, holds, without};
 ghost use Rattle.underlay.specs.Overlay.{flood_in, flooding};
-ghost use Rattle.underlay.specs.Seats.{occupied};
+ghost use Rattle.underlay.specs.Seats.{occupied, is_wide_at, gives};
 
-use crate::Segment;
 use crate::heads::SegmentHeads;
-use flood_lists::{FloodFault, NotThere, Own};
+use crate::rooms::rooms;
+use crate::{Segment, Tunnels};
+use flood_lists::{FloodFault, NotThere, Own, Room};
 use frame_view::Vid;
 use ip_udp_view::{Addr, Tunnel};
 use std::alloc::{AllocError, Global};
@@ -31,7 +32,8 @@ struct Row {
 }
 
 /// The segments with the heads of their packets, as many as it was opened for at most, seen by contracts as finite maps
-/// from VIDs. One is found by one index. Only [`SegmentPlaces::open`] takes memory.
+/// from VIDs. One is found by one index. Only [`SegmentPlaces::open`] takes memory: each place has a room of its own, where
+/// flood lists may have more entries than stand in them.
 #[derive(Drop)]
 pub(crate) struct SegmentPlaces {
     /// For each number of 12 bits the place in `rows` of the segment with this VID.
@@ -40,13 +42,18 @@ pub(crate) struct SegmentPlaces {
     rows: Vec<Option<Row>>,
     /// The place behind the one that was taken last. Where it is free, the next segment gets it.
     next: usize,
+    /// The most entries of a flood list.
+    flood: u16,
+    /// For each place of `rows` the room that its segment's flood list takes beyond 16 entries. Where the list has it, or such
+    /// lists are none, there is none.
+    rooms: Vec<Option<Room>>,
 }
 
 impl Model for SegmentPlaces {
     ghost use Rattle.std.specs.Prelude.{◌≡◌, ◌<◌, length};
     ghost use Rattle.std.specs.FinMap.{len};
     ghost use Rattle.underlay.specs.Code.{seats_code};
-    ghost use Rattle.underlay.specs.Seats.{Seats, seated, occupied, Leads};
+    ghost use Rattle.underlay.specs.Seats.{Seats, seated, occupied, Leads, HasRooms};
 
     ghost Value = { Seats };
 
@@ -56,18 +63,20 @@ impl Model for SegmentPlaces {
       segments = seated (λ row. row.segment) s.rows.items s.index.items;
       heads = seated (λ row. row.heads) s.rows.items s.index.items;
       most = length s.rows.items;
+      flood = s.flood;
     } };
 
     ghost invariant = { λ s. (4094 < length s.index.items)
         × (length s.rows.items < 65536)
         × Leads (λ row. row.vid) s.rows.items s.index.items
-        × (occupied s.rows.items ≡ len (seated (λ row. row.segment) s.rows.items s.index.items)) };
+        × (occupied s.rows.items ≡ len (seated (λ row. row.segment) s.rows.items s.index.items))
+        × HasRooms (λ row. row.segment.flood) s.flood s.rows.items s.rooms.items };
 }
 
 impl SegmentPlaces {
-    /// No segment, and the places of so many.
-    pub(crate) fn open(alloc: Global, most: u16) -> Result<SegmentPlaces, AllocError>
-        ensures { IfOk result (λ places. places ≡ record { segments = empty; heads = empty; most = most }) }
+    /// No segment, and the places of so many, with flood lists of so many entries at most.
+    pub(crate) fn open(alloc: Global, most: u16, flood: u16) -> Result<SegmentPlaces, AllocError>
+        ensures { IfOk result (λ places. places ≡ record { segments = empty; heads = empty; most = most; flood = flood }) }
     {
         let mut index = Vec::with_capacity(alloc, NUMBERS)?;
         for _number in 0..NUMBERS {
@@ -81,6 +90,8 @@ impl SegmentPlaces {
             index,
             rows,
             next: 0,
+            flood,
+            rooms: rooms(alloc, most, flood)?,
         })
     }
 
@@ -132,13 +143,16 @@ impl SegmentPlaces {
         self.next = place + 1;
     }
 
-    /// Takes the segment with this VID from its place, which is free then.
-    pub(crate) fn take(&mut self, vid: Vid) -> Option<Segment>
-        ensures taken { result ≡ get self.old.segments vid }
+    /// Takes the segment with this VID from its place, which is free then, and answers its tunnels.
+    pub(crate) fn take(&mut self, vid: Vid) -> Option<Tunnels>
+        ensures taken { result ≡ option_map (λ g. g.tunnels) (get self.old.segments vid) }
         ensures left { self.new ≡ record self.old { segments = remove self.old.segments vid; heads = remove self.old.heads vid } }
     {
         match self.index[usize::from(vid.get())].take() {
-            Some(place) => segment_of(self.rows[usize::from(place)].take()),
+            Some(place) => {
+                let row = self.rows[usize::from(place)].take();
+                emptied(row, &mut self.rooms[usize::from(place)])
+            }
             None => None,
         }
     }
@@ -152,17 +166,19 @@ impl SegmentPlaces {
         own: &Own,
     ) -> Result<(), FloodFault>
         requires there { IsTrue (is_some (get self.old.segments vid)) }
-        ensures fault { fault_of result ≡ first (add_faults own.now (flood_in self.old.segments vid) kind addr) }
+        ensures fault { fault_of result ≡ first (add_faults own.now self.old.flood (flood_in self.old.segments vid) kind addr) }
         ensures added { OnOk result
             (self.new.segments
             ≡ flooding self.old.segments vid (flood_in self.old.segments vid ++ record { tunnel = kind; addr = addr } ∷ [])) }
         ensures refused { OnErr result (self.new.segments ≡ self.old.segments) }
         ensures heads { self.new.heads ≡ self.old.heads }
         ensures most { self.new.most ≡ self.old.most }
+        ensures lists { self.new.flood ≡ self.old.flood }
     {
         let place = usize::from(self.index[usize::from(vid.get())].unwrap());
         let row = self.rows[place].as_mut().unwrap();
-        row.segment.flood.add(kind, addr, own)
+        let room = &mut self.rooms[place];
+        row.segment.flood.add(kind, addr, own, self.flood, room)
     }
 
     /// Takes an entry from the flood list of a segment that is there. A list that refuses stays as it was.
@@ -179,20 +195,43 @@ impl SegmentPlaces {
         ensures refused { OnErr result (self.new.segments ≡ self.old.segments) }
         ensures heads { self.new.heads ≡ self.old.heads }
         ensures most { self.new.most ≡ self.old.most }
+        ensures lists { self.new.flood ≡ self.old.flood }
     {
         let place = usize::from(self.index[usize::from(vid.get())].unwrap());
         let row = self.rows[place].as_mut().unwrap();
-        row.segment.flood.remove(kind, addr)
+        let removed = row.segment.flood.remove(kind, addr);
+        given_back(removed, &mut self.rooms[place])
     }
 }
 
-/// The segment of a row.
-fn segment_of(row: Option<Row>) -> Option<Segment>
-    ensures { result ≡ option_map (λ r. r.segment) row }
+/// The tunnels of a row's segment. The room of its flood list goes back to its place.
+fn emptied(row: Option<Row>, room: &mut Option<Room>) -> Option<Tunnels>
+    ensures tunnels { result ≡ option_map (λ r. r.segment.tunnels) row }
+    ensures room { is_some room.new ≡ is_some room.old || is_wide_at (λ r. r.segment.flood) row }
 {
-    match row {
-        Some(row) => Some(row.segment),
-        None => None,
+    let Segment { tunnels, flood, .. } = row?.segment;
+    keep(flood.into_room(), room);
+    Some(tunnels)
+}
+
+/// Keeps the room that a list gave back, and answers whether the list gave up an entry.
+fn given_back(
+    removed: Result<Option<Room>, NotThere>,
+    room: &mut Option<Room>,
+) -> Result<(), NotThere>
+    ensures there { is_ok result ≡ is_ok removed }
+    ensures room { is_some room.new ≡ is_some room.old || gives removed }
+{
+    keep(removed?, room);
+    Ok(())
+}
+
+/// Keeps a room that was given back, where there is none.
+fn keep(given: Option<Room>, room: &mut Option<Room>)
+    ensures { is_some room.new ≡ is_some room.old || is_some given }
+{
+    if room.is_none() {
+        *room = given;
     }
 }
 

@@ -56,13 +56,14 @@ impl Model for Under {
     ghost invariant = { λ u. Indexes Vxlan u.segments.segments u.vxlan.vids
         × Indexes Geneve u.segments.segments u.geneve.vids
         × AreHeads u.underlay u.segments
-        × HasRoomFor u.underlay.limits.segments u.segments u.vxlan u.geneve };
+        × HasRoomFor u.underlay.limits.segments u.underlay.limits.flood u.segments u.vxlan u.geneve };
 }
 
 impl Under {
     /// The settings, and the segments of these rules: at most as many as the limits say, no two of which are for one VID
-    /// or have tunnels of one kind and VNI. It reserves the places of so many segments, an index of all VIDs, and as many
-    /// places in each of the two indexes of VNIs. `AllocError`: there was no room for them.
+    /// or have tunnels of one kind and VNI. It reserves the places of so many segments, an index of all VIDs, as many places in
+    /// each of the two indexes of VNIs, and for each segment a room of 512 remotes, where the limits allow a flood list more
+    /// than 16. `AllocError`: there was no room for them.
     pub fn open(
         alloc: Global,
         underlay: Underlay,
@@ -84,9 +85,10 @@ impl Under {
         ensures { IfOk result (λ under. under ≡ told underlay []) }
     {
         let most = underlay.limits.segments;
+        let flood = underlay.limits.flood;
         Ok(Under {
             underlay,
-            segments: SegmentPlaces::open(alloc, most)?,
+            segments: SegmentPlaces::open(alloc, most, flood)?,
             vxlan: VniIndex::open(alloc, most)?,
             geneve: VniIndex::open(alloc, most)?,
         })
@@ -225,7 +227,7 @@ impl Under {
     /// Puts an entry last on the flood list of a segment that is there. A list that refuses stays as it was.
     pub fn add_flood(&mut self, vid: Vid, kind: Tunnel, addr: Addr) -> Result<(), FloodFault>
         requires there { IsTrue (has_segment self.old vid) }
-        ensures fault { fault_of result ≡ first (add_faults (own self.old.underlay) (flood_at self.old vid) kind addr) }
+        ensures fault { fault_of result ≡ first (add_faults (own self.old.underlay) self.old.underlay.limits.flood (flood_at self.old vid) kind addr) }
         ensures added { OnOk result
             (self.new ≡ with_flood self.old vid (flood_at self.old vid ++ record { tunnel = kind; addr = addr } ∷ [])) }
         ensures refused { OnErr result (self.new ≡ self.old) }
@@ -276,9 +278,9 @@ impl Under {
         requires there { IsTrue (has_segment self.old vid) }
         ensures { self.new ≡ without_segment self.old vid }
     {
-        if let Some(segment) = self.segments.take(vid) {
-            self.vxlan.unlist(segment.tunnels.of(Tunnel::Vxlan));
-            self.geneve.unlist(segment.tunnels.of(Tunnel::Geneve));
+        if let Some(tunnels) = self.segments.take(vid) {
+            self.vxlan.unlist(tunnels.of(Tunnel::Vxlan));
+            self.geneve.unlist(tunnels.of(Tunnel::Geneve));
         }
     }
 

@@ -149,9 +149,10 @@ fn two_remotes() -> Result<FloodList, Fail> {
         ip4: Some([192, 0, 2, 1]),
         ip6: None,
     };
+    let (second, third) = (Addr::V4([192, 0, 2, 2]), Addr::V4([192, 0, 2, 3]));
     let mut flood = FloodList::new();
-    flood.add(Tunnel::Vxlan, Addr::V4([192, 0, 2, 2]), &own)?;
-    flood.add(Tunnel::Geneve, Addr::V4([192, 0, 2, 3]), &own)?;
+    flood.add(Tunnel::Vxlan, second, &own, 16, &mut None)?;
+    flood.add(Tunnel::Geneve, third, &own, 16, &mut None)?;
     Ok(flood)
 }
 

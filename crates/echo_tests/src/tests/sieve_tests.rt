@@ -61,6 +61,7 @@ fn underlay(alloc: Global) -> Underlay {
         limits: Limits {
             ports: 16,
             segments: 256,
+            flood: 16,
             hops: 64,
             entries: 8192,
             addresses: 65536,

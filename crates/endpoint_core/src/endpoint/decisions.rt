@@ -138,7 +138,7 @@ fn is_crowded(ports: u8, under: &Under, number: u16) -> bool
 fn flooded(under: &Under, number: u16) -> usize
     requires { IsVid number }
     ensures value { result ≡ length (flood_at under.now number) }
-    ensures few { result ≤ 16 }
+    ensures few { result ≤ 512 }
 {
     match Vid::new(number) {
         Some(vid) if under.has(vid) => under.flood(vid).targets().len(),

@@ -50,6 +50,7 @@ pub(crate) fn underlay(alloc: Global, last: u8) -> Underlay
         limits: Limits {
             ports: 16,
             segments: 256,
+            flood: 16,
             hops: 64,
             entries: 8192,
             addresses: 65536,

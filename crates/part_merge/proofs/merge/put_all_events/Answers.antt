@@ -1,4 +1,5 @@
-use Rattle.std.proofs.Common.{◌≡◌, ℕ, length, arith}
+use Rattle.std.proofs.Common.{◌≡◌, ◌∙◌, sym, ℕ, true, false, length, arith}
+use Rattle.std.proofs.lemmas.Result.{on_ok_weaker}
 use Rattle.part_merge.specs.Left.{AreKept}
 use Rattle.part_merge.specs.Merged.{capture_at, merged}
 use Rattle.part_merge.specs.Numbered.{AddsEvents, HaveNoEvent}
@@ -7,6 +8,7 @@ use Rattle.part_merge.proofs.Handing.{added_kept}
 use Rattle.part_merge.proofs.Missing.{unless_missing}
 use Rattle.part_merge.proofs.Numbering.{always}
 use Rattle.part_merge.proofs.Waits.{none_waits}
+use Rattle.part_merge.proofs.merge.put_all_events.Goals.{then-may_wait, else-may_wait}
 use Rattle.part_merge.proofs.merge.put_all_events.Goals as goal
 
 pub returns-clause-events : goal.returns-clause-events
@@ -39,3 +41,9 @@ returns-clause-writes g c =
 
 pub returns-clause-waits : goal.returns-clause-waits
 returns-clause-waits g c = none_waits _ c.hand_on_captures_before.result c.hand_on_captures_before.ensures.no_read
+
+pub returns-clause-out : goal.returns-clause-out
+returns-clause-out g c = elim c.if-may_wait.branch [
+  | then-may_wait w ↦ on_ok_weaker c.hand_on_captures_before.result (λ out may. out (w.hand_on_captures_before-is ∙ may)) c.hand_on_captures_before.ensures.out
+  | else-may_wait w ↦ on_ok_weaker c.hand_on_captures_before.result (λ out may. let never : true ≡ false = sym may ∙ w.if-may_wait.false in absurd cc) c.hand_on_captures_before.ensures.out
+]

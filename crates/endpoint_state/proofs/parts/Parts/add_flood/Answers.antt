@@ -13,7 +13,7 @@ returns-clause-sound g c =
     let vid = c.args.vid in
     let kind = c.in_ok-kind.kind in
     let flood : Entries = flood_at parts.under vid ++ record { tunnel = kind; addr = c.args.addr } ∷ [] in
-    let family = family-added (own parts.under.underlay) (flood_at parts.under vid) kind c.args.addr c.in_ok-add_flood.ensures.fault in
+    let family = family-added (own parts.under.underlay) parts.under.underlay.limits.flood (flood_at parts.under vid) kind c.args.addr c.in_ok-add_flood.ensures.fault in
     let reached = and_from (is_some (tunnel_at parts.under vid kind)) (has_family (own parts.under.underlay) c.args.addr) c.in_ok-kind.ensures.tunnel family in
     sound-same _ _ _ _ _ _ refl c.in_ok-add_flood.ensures.added refl
     (sound-relisted parts.ports parts.under (g.T.Tables.segments parts.tables) vid flood c.requires.sound c.in_ok-kind.ensures.there (reached-added parts.under vid (flood_at parts.under vid) kind c.args.addr (c.requires.sound.flood vid) reached))

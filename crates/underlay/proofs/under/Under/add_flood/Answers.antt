@@ -14,5 +14,5 @@ invariant_of-self c =
       indexes_flood Vxlan c.add_flood.result c.self.inside.segments.segments c.add_flood.new.self.segments c.self.inside.vxlan.vids c.args.vid flood c.self.invariant.0 c.add_flood.ensures.added c.add_flood.ensures.refused,
       indexes_flood Geneve c.add_flood.result c.self.inside.segments.segments c.add_flood.new.self.segments c.self.inside.geneve.vids c.args.vid flood c.self.invariant.1 c.add_flood.ensures.added c.add_flood.ensures.refused,
       heads-flood c.add_flood.result c.self.inside.underlay c.self.inside.segments c.add_flood.new.self c.args.vid flood c.self.invariant.2 c.add_flood.ensures.added c.add_flood.ensures.refused c.add_flood.ensures.heads,
-      room_stays c.self.inside.underlay.limits.segments c.self.inside.segments c.add_flood.new.self c.self.inside.vxlan c.self.inside.vxlan c.self.inside.geneve c.self.inside.geneve c.self.invariant.3 c.add_flood.ensures.most refl refl,
+      room_stays c.self.inside.underlay.limits.segments c.self.inside.underlay.limits.flood c.self.inside.segments c.add_flood.new.self c.self.inside.vxlan c.self.inside.vxlan c.self.inside.geneve c.self.inside.geneve c.self.invariant.3 c.add_flood.ensures.most c.add_flood.ensures.lists refl refl,
     )

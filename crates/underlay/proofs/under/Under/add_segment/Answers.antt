@@ -55,6 +55,6 @@ invariant_of-self c =
           (indexes-insert Geneve S.segments c.self.inside.geneve.vids rule.vid (segment_of rule) c.of-2.result (sym c.of-2.ensures) (seen Geneve c.self.inside.segments.segments S c.self.inside.geneve.vids same c.self.invariant.1) absent
           (free_at Geneve S rule.tunnels c.of-2.result c.of-2.ensures c.requires.free)),
       heads-insert c.self.inside.underlay c.self.inside.segments c.put.new.self rule.vid (segment_of rule) c.of-heads.result c.self.invariant.2 c.put.ensures c.of-heads.ensures,
-      room_stays c.self.inside.underlay.limits.segments c.self.inside.segments c.put.new.self c.self.inside.vxlan c.list.new.self c.self.inside.geneve c.list-2.new.self c.self.invariant.3
-          (ap (λ (s : Seats). s.most) c.put.ensures) (ap (λ (l : Listed). l.most) c.list.ensures) (ap (λ (l : Listed). l.most) c.list-2.ensures),
+      room_stays c.self.inside.underlay.limits.segments c.self.inside.underlay.limits.flood c.self.inside.segments c.put.new.self c.self.inside.vxlan c.list.new.self c.self.inside.geneve c.list-2.new.self c.self.invariant.3
+          (ap (λ (s : Seats). s.most) c.put.ensures) (ap (λ (s : Seats). s.flood) c.put.ensures) (ap (λ (l : Listed). l.most) c.list.ensures) (ap (λ (l : Listed). l.most) c.list-2.ensures),
     )

@@ -14,5 +14,5 @@ invariant_of-self c =
       indexes_flood Vxlan c.remove_flood.result c.self.inside.segments.segments c.remove_flood.new.self.segments c.self.inside.vxlan.vids c.args.vid flood c.self.invariant.0 c.remove_flood.ensures.removed c.remove_flood.ensures.refused,
       indexes_flood Geneve c.remove_flood.result c.self.inside.segments.segments c.remove_flood.new.self.segments c.self.inside.geneve.vids c.args.vid flood c.self.invariant.1 c.remove_flood.ensures.removed c.remove_flood.ensures.refused,
       heads-flood c.remove_flood.result c.self.inside.underlay c.self.inside.segments c.remove_flood.new.self c.args.vid flood c.self.invariant.2 c.remove_flood.ensures.removed c.remove_flood.ensures.refused c.remove_flood.ensures.heads,
-      room_stays c.self.inside.underlay.limits.segments c.self.inside.segments c.remove_flood.new.self c.self.inside.vxlan c.self.inside.vxlan c.self.inside.geneve c.self.inside.geneve c.self.invariant.3 c.remove_flood.ensures.most refl refl,
+      room_stays c.self.inside.underlay.limits.segments c.self.inside.underlay.limits.flood c.self.inside.segments c.remove_flood.new.self c.self.inside.vxlan c.self.inside.vxlan c.self.inside.geneve c.self.inside.geneve c.self.invariant.3 c.remove_flood.ensures.most c.remove_flood.ensures.lists refl refl,
     )

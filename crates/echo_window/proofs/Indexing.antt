@@ -1,12 +1,12 @@
 -- Where frames are looked for.
-use Rattle.std.proofs.Common.{◌≡◌, ◌≢◌, ◌⊎◌, inl, inr, ℕ, ◌+◌, ◌-◌, ◌<◌, ◌≤◌, true, false, eqb, List, [], ◌∷◌, ◌++◌, length, get_or, set, take, drop, refl, sym, ap, ◌∙◌, zero, suc, subst, replicate, min, arith, length-append, length-drop, length-set}
+use Rattle.std.proofs.Common.{◌≡◌, ◌≢◌, ◌⊎◌, inl, inr, ℕ, ◌+◌, ◌-◌, ◌<◌, ◌≤◌, Bool, true, false, eqb, List, [], ◌∷◌, ◌++◌, length, get_or, set, take, drop, refl, sym, ap, ◌∙◌, zero, suc, subst, replicate, min, arith, length-append, length-drop, length-set}
 use Rattle.std.proofs.lemmas.List.{get_or_append_left, get_or-set_other}
 use Rattle.std.proofs.Math.Seq.{get_or-append_seam}
 use Rattle.std.proofs.lemmas.Bool.Decides.{eqb_tells}
 use Rattle.std.proofs.lemmas.Grind.{get_or-set_at}
 use Rattle.echo_window.specs.Bucket.{bucket_of}
 use Rattle.echo_window.specs.Echo.{Came, Record, met_again}
-use Rattle.echo_window.specs.Index.{IsBlank, IsIndexed, IsKept, IsLatest, IsLinked, IsPlaced, befores, buckets}
+use Rattle.echo_window.specs.Index.{AreAlike, IsAllAt, IsBlank, IsIndexed, IsKept, IsLatest, IsLinked, IsPlaced, alikes, befores, buckets, places}
 use Rattle.echo_window.specs.Laid.{came_of, laid, lengths}
 use Rattle.echo_window.specs.declared.kept.Kept.{Kept}
 use Rattle.echo_window.proofs.Laying.{laid-length, laid-put, lengths-put, lengths-set}
@@ -98,6 +98,31 @@ linked-none latest h = record {
   before = λ j l. absurd (omega (arith, l));
 }
 
+-- ---- where they came in
+
+alike-drop : (x p : ℕ) (f : Bool) (bs ps : List ℕ) (said : List Bool) → AreAlike (x ∷ bs) (p ∷ ps) (f ∷ said) → AreAlike bs ps said
+alike-drop x p f bs ps said h = λ j i l m. h (suc j) (suc i) (omega (arith, l)) (omega (arith, m))
+
+alike-put : (x p : ℕ) (f : Bool) (bs ps : List ℕ) (said : List Bool) → length ps ≡ length bs → length said ≡ length bs → (f ≡ true → IsAllAt bs ps x p) → AreAlike bs ps said
+    → AreAlike (bs ++ x ∷ []) (ps ++ p ∷ []) (said ++ f ∷ [])
+alike-put x p f bs ps said places_too said_too all h = λ j i l m s q. by j i (omega (arith, l, length-append bs (x ∷ []))) m s q (eqb_tells j (length bs))
+  where
+    by : (j i : ℕ) → j < length bs + 1 → i < j → get_or (said ++ f ∷ []) j false ≡ true → get_or (bs ++ x ∷ []) i 0 ≡ get_or (bs ++ x ∷ []) j 0
+        → ((eqb j (length bs) ≡ true) × (j ≡ length bs)) ⊎ ((eqb j (length bs) ≡ false) × (j ≢ length bs)) → get_or (ps ++ p ∷ []) i 0 ≡ get_or (ps ++ p ∷ []) j 0
+    by j i l m s q (inl at) =
+        let inner : i < length bs = omega (arith, m, at.1) in
+        let own : get_or (bs ++ x ∷ []) j 0 ≡ x = ap (λ k. get_or (bs ++ x ∷ []) k 0) at.1 ∙ get_or-append_seam bs x [] 0 in
+        let place : get_or (ps ++ p ∷ []) j 0 ≡ p = ap (λ k. get_or (ps ++ p ∷ []) k 0) (at.1 ∙ sym places_too) ∙ get_or-append_seam ps p [] 0 in
+        let flag : f ≡ true = sym (ap (λ k. get_or (said ++ f ∷ []) k false) (at.1 ∙ sym said_too) ∙ get_or-append_seam said f [] false) ∙ s in
+        get_or_append_left ps (p ∷ []) 0 i (omega (arith, inner, places_too)) ∙ all flag i inner (sym (get_or_append_left bs (x ∷ []) 0 i inner) ∙ q ∙ own) ∙ sym place
+    by j i l m s q (inr away) =
+        let inner : j < length bs = omega (arith, l, away.1) in
+        let lower : i < length bs = omega (arith, m, inner) in
+        get_or_append_left ps (p ∷ []) 0 i (omega (arith, lower, places_too))
+        ∙ h j i inner m (sym (get_or_append_left said (f ∷ []) false j (omega (arith, inner, said_too))) ∙ s)
+        (sym (get_or_append_left bs (x ∷ []) 0 i lower) ∙ q ∙ get_or_append_left bs (x ∷ []) 0 j inner)
+        ∙ sym (get_or_append_left ps (p ∷ []) 0 j (omega (arith, inner, places_too)))
+
 -- ---- where their octets stand
 
 pub placed-put : (passed : ℕ) (ks : List Kept) (k : Kept) → IsPlaced passed ks → k.at ≡ passed + lengths ks → IsPlaced passed (ks ++ k ∷ [])
@@ -127,6 +152,24 @@ pub befores-length : (ks : List Kept) → length (befores ks) ≡ length ks
 befores-length [] = refl
 befores-length (k ∷ ks) = ap suc (befores-length ks)
 
+pub places-length : (ks : List Kept) → length (places ks) ≡ length ks
+places-length [] = refl
+places-length (k ∷ ks) = ap suc (places-length ks)
+
+alikes-length : (ks : List Kept) → length (alikes ks) ≡ length ks
+alikes-length [] = refl
+alikes-length (k ∷ ks) = ap suc (alikes-length ks)
+
+pub place-at : (ks : List Kept) (i : ℕ) (d : Kept) → i < length ks → get_or (places ks) i 0 ≡ (get_or ks i d).place
+place-at [] i d l = absurd (omega (arith, l))
+place-at (k ∷ ks) zero d l = refl
+place-at (k ∷ ks) (suc i) d l = place-at ks i d (omega (arith, l))
+
+pub alike-at : (ks : List Kept) (i : ℕ) (d : Kept) → i < length ks → get_or (alikes ks) i false ≡ (get_or ks i d).alike
+alike-at [] i d l = absurd (omega (arith, l))
+alike-at (k ∷ ks) zero d l = refl
+alike-at (k ∷ ks) (suc i) d l = alike-at ks i d (omega (arith, l))
+
 pub bucket-at : (came : List Came) (i : ℕ) (d : Came) → i < length came → get_or (buckets came) i 0 ≡ bucket_of (get_or came i d).frame
 bucket-at [] i d l = absurd (omega (arith, l))
 bucket-at (c ∷ came) zero d l = refl
@@ -145,6 +188,24 @@ befores-append : (ks : List Kept) (k : Kept) → befores (ks ++ k ∷ []) ≡ be
 befores-append [] k = refl
 befores-append (j ∷ ks) k = ap (λ ns. j.before ∷ ns) (befores-append ks k)
 
+places-append : (ks : List Kept) (k : Kept) → places (ks ++ k ∷ []) ≡ places ks ++ k.place ∷ []
+places-append [] k = refl
+places-append (j ∷ ks) k = ap (λ ns. j.place ∷ ns) (places-append ks k)
+
+alikes-append : (ks : List Kept) (k : Kept) → alikes (ks ++ k ∷ []) ≡ alikes ks ++ k.alike ∷ []
+alikes-append [] k = refl
+alikes-append (j ∷ ks) k = ap (λ ns. j.alike ∷ ns) (alikes-append ks k)
+
+places-set : (ks : List Kept) (i : ℕ) (more d : Kept) → i < length ks → more.place ≡ (get_or ks i d).place → places (set ks i more) ≡ places ks
+places-set [] i more d l e = refl
+places-set (j ∷ ks) zero more d l e = ap (λ n. n ∷ places ks) e
+places-set (j ∷ ks) (suc i) more d l e = ap (λ ns. j.place ∷ ns) (places-set ks i more d (omega (arith, l)) e)
+
+alikes-set : (ks : List Kept) (i : ℕ) (more d : Kept) → i < length ks → more.alike ≡ (get_or ks i d).alike → alikes (set ks i more) ≡ alikes ks
+alikes-set [] i more d l e = refl
+alikes-set (j ∷ ks) zero more d l e = ap (λ n. n ∷ alikes ks) e
+alikes-set (j ∷ ks) (suc i) more d l e = ap (λ ns. j.alike ∷ ns) (alikes-set ks i more d (omega (arith, l)) e)
+
 -- a frame that was met again has the bucket that it had
 buckets-met : (m : Record) (came : List Came) (i : ℕ) → buckets (met_again m came i) ≡ buckets came
 buckets-met m [] i = refl
@@ -162,23 +223,29 @@ pub indexed-drop : (gone passed : ℕ) (k : Kept) (ks : List Kept) (row latest :
 indexed-drop gone passed k ks row latest h = record {
   linked = linked-drop gone (bucket_of (take k.length row)) k.before (buckets (laid ks (drop k.length row))) (befores ks) latest h.linked;
   placed = h.placed.1;
+  alike = alike-drop (bucket_of (take k.length row)) k.place k.alike (buckets (laid ks (drop k.length row))) (places ks) (alikes ks) h.alike;
 }
 
 pub indexed-met : (gone passed : ℕ) (ks : List Kept) (row latest : List ℕ) (i : ℕ) (k more : Kept) (m : Record) → i < length ks → k ≡ get_or ks i k
-    → more.at ≡ k.at → more.length ≡ k.length → more.before ≡ k.before → laid (set ks i more) row ≡ met_again m (laid ks row) i
+    → more.at ≡ k.at → more.length ≡ k.length → more.before ≡ k.before → more.place ≡ k.place → more.alike ≡ k.alike → laid (set ks i more) row ≡ met_again m (laid ks row) i
     → IsIndexed gone passed ks row latest → IsIndexed gone passed (set ks i more) row latest
-indexed-met gone passed ks row latest i k more m l here a e b is h =
+indexed-met gone passed ks row latest i k more m l here a e b p f is h =
     let bs : buckets (laid (set ks i more) row) ≡ buckets (laid ks row) = ap (λ (cs : List Came). buckets cs) is ∙ buckets-met m (laid ks row) i in
     let ns : befores (set ks i more) ≡ befores ks = befores-set ks i more k l (b ∙ ap (λ (x : Kept). x.before) here) in
     record {
       linked = subst (λ xs. IsLinked gone xs (befores (set ks i more)) latest) (sym bs) (subst (λ xs. IsLinked gone (buckets (laid ks row)) xs latest) (sym ns) h.linked);
       placed = placed-set passed ks i more k l (a ∙ ap (λ (x : Kept). x.at) here) (e ∙ ap (λ (x : Kept). x.length) here) h.placed;
+      alike =
+          subst (λ xs. AreAlike xs (places (set ks i more)) (alikes (set ks i more))) (sym bs)
+          (subst (λ xs. AreAlike (buckets (laid ks row)) xs (alikes (set ks i more))) (sym (places-set ks i more k l (p ∙ ap (λ (x : Kept). x.place) here)))
+          (subst (λ xs. AreAlike (buckets (laid ks row)) (places ks) xs) (sym (alikes-set ks i more k l (f ∙ ap (λ (x : Kept). x.alike) here))) h.alike));
     }
 
 pub indexed-put : (gone passed : ℕ) (ks : List Kept) (row latest : List ℕ) (k : Kept) (text : List ℕ) (b n : ℕ) → lengths ks ≡ length row → k.length ≡ length text
     → b ≡ bucket_of text → b < length latest → n ≡ gone + length ks + 1 → k.before ≡ get_or latest b 0 → k.at ≡ passed + length row
+    → (k.alike ≡ true → IsAllAt (buckets (laid ks row)) (places ks) b k.place)
     → IsIndexed gone passed ks row latest → IsIndexed gone passed (ks ++ k ∷ []) (row ++ text) (set latest b n)
-indexed-put gone passed ks row latest k text b n whole size is few number before at h =
+indexed-put gone passed ks row latest k text b n whole size is few number before at all h =
     let bs : buckets (laid (ks ++ k ∷ []) (row ++ text)) ≡ buckets (laid ks row) ++ b ∷ [] =
     ap (λ (cs : List Came). buckets cs) (laid-put ks row k text whole size) ∙ buckets-append (laid ks row) (came_of k text) ∙ ap (λ x. buckets (laid ks row) ++ x ∷ []) (sym is) in
     let ns : befores (ks ++ k ∷ []) ≡ befores ks ++ k.before ∷ [] = befores-append ks k in
@@ -186,6 +253,11 @@ indexed-put gone passed ks row latest k text b n whole size is few number before
     record {
       linked = subst (λ xs. IsLinked gone xs (befores (ks ++ k ∷ [])) (set latest b n)) (sym bs) (subst (λ xs. IsLinked gone (buckets (laid ks row) ++ b ∷ []) xs (set latest b n)) (sym ns) old);
       placed = placed-put passed ks k h.placed (omega (arith, at, whole));
+      alike =
+          subst (λ xs. AreAlike xs (places (ks ++ k ∷ [])) (alikes (ks ++ k ∷ []))) (sym bs)
+          (subst (λ xs. AreAlike (buckets (laid ks row) ++ b ∷ []) xs (alikes (ks ++ k ∷ []))) (sym (places-append ks k))
+          (subst (λ xs. AreAlike (buckets (laid ks row) ++ b ∷ []) (places ks ++ k.place ∷ []) xs) (sym (alikes-append ks k))
+          (alike-put b k.place k.alike (buckets (laid ks row)) (places ks) (alikes ks) (places-length ks ∙ sym (buckets-length ks row)) (alikes-length ks ∙ sym (buckets-length ks row)) all h.alike)));
     }
 
 -- ---- with the bounds
@@ -210,9 +282,9 @@ kept-drop capacity more gone passed gone' passed' k ks row latest room g p h = r
 }
 
 pub kept-met : (capacity gone passed i : ℕ) (k more : Kept) (m : Record) (ks : List Kept) (row latest : List ℕ) → i < length ks → k ≡ get_or ks i k
-    → more.at ≡ k.at → more.length ≡ k.length → more.before ≡ k.before → laid (set ks i more) row ≡ met_again m (laid ks row) i
+    → more.at ≡ k.at → more.length ≡ k.length → more.before ≡ k.before → more.place ≡ k.place → more.alike ≡ k.alike → laid (set ks i more) row ≡ met_again m (laid ks row) i
     → IsKept ks row capacity gone passed latest → IsKept (set ks i more) row capacity gone passed latest
-kept-met capacity gone passed i k more m ks row latest l here a e b is h = record {
+kept-met capacity gone passed i k more m ks row latest l here a e b p f is h = record {
   stands = record {
     whole = lengths-set ks i more k l (e ∙ ap (λ (x : Kept). x.length) here) ∙ h.stands.whole;
     few = omega (arith, length-set ks i more, h.stands.few);
@@ -220,14 +292,15 @@ kept-met capacity gone passed i k more m ks row latest l here a e b is h = recor
     reserved = h.stands.reserved;
   };
   buckets = h.buckets;
-  indexed = λ low few. indexed-met gone passed ks row latest i k more m l here a e b is (h.indexed low few);
+  indexed = λ low few. indexed-met gone passed ks row latest i k more m l here a e b p f is (h.indexed low few);
 }
 
 pub kept-put : (capacity more gone passed gone' passed' b n : ℕ) (k : Kept) (text : List ℕ) (ks : List Kept) (row latest latest' : List ℕ) → 4096 ≤ more → length ks + 1 ≤ 4096 → length row + length text ≤ 4194304
     → k.length ≡ length text → b ≡ bucket_of text → b < 16384 → n ≡ min (gone + (length ks + 1)) 18446744073709551615 → k.before ≡ get_or latest b 0 → k.at ≡ min (passed + length row) 18446744073709551615
     → gone' ≡ gone → passed' ≡ passed → latest' ≡ set latest b n
+    → (k.alike ≡ true → gone < 4611686018427387904 → passed < 4611686018427387904 → IsAllAt (buckets (laid ks row)) (places ks) b k.place)
     → IsKept ks row capacity gone passed latest → IsKept (ks ++ k ∷ []) (row ++ text) more gone' passed' latest'
-kept-put capacity more gone passed gone' passed' b n k text ks row latest latest' room few small size is bound number before at g p l h = record {
+kept-put capacity more gone passed gone' passed' b n k text ks row latest latest' room few small size is bound number before at g p l all h = record {
   stands = record {
     whole = omega (arith, lengths-put ks k, length-append row text, h.stands.whole, size);
     few = omega (arith, length-append ks (k ∷ []), few);
@@ -237,6 +310,7 @@ kept-put capacity more gone passed gone' passed' b n k text ks row latest latest
   buckets = ap (λ (xs : List ℕ). length xs) l ∙ length-set latest b n ∙ h.buckets;
   indexed = λ low pass.
       let old = indexed-put gone passed ks row latest k text b n h.stands.whole size is (omega (arith, bound, h.buckets)) (omega (arith, number, low, g, few)) before (omega (arith, at, pass, p, h.stands.small))
+      (λ flag. all flag (omega (arith, low, g)) (omega (arith, pass, p)))
       (h.indexed (omega (arith, low, g)) (omega (arith, pass, p))) in
       subst (λ x. IsIndexed x passed' (ks ++ k ∷ []) (row ++ text) latest') (sym g)
       (subst (λ x. IsIndexed gone x (ks ++ k ∷ []) (row ++ text) latest') (sym p)
@@ -250,6 +324,7 @@ kept-none capacity gone passed ks row latest none room r g p blank = subst (λ (
   indexed = λ low few. record {
     linked = subst (λ n. IsLinked n [] [] latest) (sym g) (linked-none latest (λ b l. blank.none b));
     placed = tt;
+    alike = λ j i l. absurd (omega (arith, l));
   };
 })
 

@@ -1,18 +1,19 @@
 -- How a frame is found by its bucket.
-use Rattle.std.proofs.Common.{◌≡◌, ◌≢◌, ℕ, ◌+◌, ◌-◌, ◌<◌, ◌≤◌, Bool, true, false, nat_lt, eqb, ◌&&◌, if◌then◌else◌, List, length, get_or, Option, Some, None, refl, sym, ap, ◌∙◌, subst, arith, ◌⊎◌, inl, inr}
+use Rattle.std.proofs.Common.{◌≡◌, ◌≢◌, ℕ, ◌+◌, ◌-◌, ◌<◌, ◌≤◌, Bool, true, false, not, nat_eq, nat_lt, eqb, ◌&&◌, if◌then◌else◌, List, length, get_or, Option, Some, None, refl, sym, ap, ◌∙◌, subst, arith, ◌⊎◌, inl, inr}
 use borrow.Author.Tests.{ltb-false, ltb-true}
+use Rattle.std.proofs.lemmas.Bool.{and_parts, eq-eqb, eqb-true}
 use Rattle.std.proofs.lemmas.Bool.Decides.{eqb_tells}
 use Rattle.std.specs.List.{position}
 use Rattle.header_octets.specs.Octets.{is_same}
 use Rattle.header_octets.proofs.OctetsLemmas.{is_same-true}
 use Rattle.echo_window.specs.Bucket.{bucket_of}
 use Rattle.echo_window.specs.Echo.{Came, Record, first_met, is_awaited, is_echo_of, is_elsewhere, is_soon}
-use Rattle.echo_window.specs.Index.{FindsFrom, IsIndexed, IsLatest, befores, buckets}
+use Rattle.echo_window.specs.Index.{FindsFrom, IsAllAt, IsIndexed, IsLatest, alikes, befores, buckets, places}
 use Rattle.echo_window.specs.Laid.{laid}
 use Rattle.echo_window.specs.declared.kept.Kept.{Kept}
 use Rattle.echo_window.proofs.Firsts.{first_at, first_nowhere}
-use Rattle.echo_window.proofs.Indexing.{before-at, bucket-at, buckets-length}
-use Rattle.echo_window.proofs.Laying.{laid-length}
+use Rattle.echo_window.proofs.Indexing.{alike-at, before-at, bucket-at, buckets-length, place-at}
+use Rattle.echo_window.proofs.Laying.{laid-length, laid-place}
 
 -- ---- the first from an index on
 
@@ -42,6 +43,24 @@ module _ (test : Came → Bool) (came : List Came) (d : Came) where
       between k m s (inr away) true z = none k m (ltb-true k i z)
       between k m s (inr away) false z = let far : i ≤ k = ltb-false k i z in old k (omega (arith, far, away.1)) s
 
+  -- none before is it
+  pub finds-rest : (begin : ℕ) (found : Option ℕ) → ((k : ℕ) → k < begin → test (get_or came k d) ≡ false) → FindsFrom test came d begin found → FindsFrom test came d 0 found
+  finds-rest begin (Some n) none old = record {
+    inside = old.inside;
+    behind = omega arith;
+    here = old.here;
+    before = λ k m s. by k s (nat_lt k begin) refl;
+  }
+    where
+      by : (k : ℕ) → k < n → (p : Bool) → nat_lt k begin ≡ p → test (get_or came k d) ≡ false
+      by k s true z = none k (ltb-true k begin z)
+      by k s false z = old.before k (ltb-false k begin z) s
+  finds-rest begin None none old = λ k m s. by k s (nat_lt k begin) refl
+    where
+      by : (k : ℕ) → k < length came → (p : Bool) → nat_lt k begin ≡ p → test (get_or came k d) ≡ false
+      by k s true z = none k (ltb-true k begin z)
+      by k s false z = old k (ltb-false k begin z) s
+
   -- all were looked at
   pub finds-all : (begin : ℕ) (found : Option ℕ) → begin ≡ 0 → FindsFrom test came d begin found → found ≡ position test came
   finds-all begin (Some i) e h = sym (first_at test came i d h.inside (λ k l. h.before k (omega (arith, e)) l) h.here)
@@ -59,6 +78,10 @@ other-bucket w m c other = by (is_same c.frame m.frame) refl
     by : (q : Bool) → is_same c.frame m.frame ≡ q → is_echo_of w m c ≡ false
     by true same = absurd (other (ap bucket_of (is_same-true c.frame m.frame same)))
     by false apart = ap (λ q. (is_elsewhere m c && (is_soon w m c && is_awaited m c)) && q) apart ∙ neither (is_elsewhere m c && (is_soon w m c && is_awaited m c))
+
+-- a frame of the record's own place
+pub own-place : (w : ℕ) (m : Record) (c : Came) → c.place ≡ m.place → is_echo_of w m c ≡ false
+own-place w m c same = ap (λ p. (not (nat_eq p m.place) && (is_soon w m c && is_awaited m c)) && is_same c.frame m.frame) same ∙ ap (λ q. (not q && (is_soon w m c && is_awaited m c)) && is_same c.frame m.frame) (eq-eqb m.place m.place refl)
 
 -- no frame between two of a bucket is one that a record of that bucket is an echo of
 pub none-between : (gone end b number w : ℕ) (m : Record) (came : List Came) → b ≡ bucket_of m.frame → end ≤ length came → IsLatest gone (buckets came) end b number
@@ -109,3 +132,74 @@ goes-down gone passed ks row latest number i k h some few at here =
     let next : get_or (befores ks) i 0 ≡ k.before = before-at ks i k l ∙ ap (λ (x : Kept). x.before) (sym here) in
     let link = h.linked.before i (omega (arith, l, buckets-length ks row)) in
     omega (arith, link.few, next, at, some)
+
+-- what was found is all that can be, where a frame says that it and those before it came in at the record's place
+pub found-all : (gone passed : ℕ) (ks : List Kept) (row latest : List ℕ) (b w : ℕ) (m : Record) (number i : ℕ) (k : Kept) (found : Option ℕ) → IsIndexed gone passed ks row latest → b ≡ bucket_of m.frame
+    → gone < number → i ≡ number - gone - 1 → k ≡ get_or ks i k → (k.alike && nat_eq k.place m.place) ≡ true
+    → Goes gone (laid ks row) b w m number found → found ≡ position (is_echo_of w m) (laid ks row)
+found-all gone passed ks row latest b w m number i k found h is some at here said old =
+    finds-all (is_echo_of w m) (laid ks row) (first_met m) 0 found refl (finds-rest (is_echo_of w m) (laid ks row) (first_met m) (number - gone) found (λ x l. none x (omega (arith, l, at, some)) (eqb_tells x i) (eqb_tells (get_or (buckets (laid ks row)) x 0) b)) old.first)
+  where
+    n : length (laid ks row) ≡ length ks
+    n = laid-length ks row
+
+    l_i : i < length ks
+    l_i = omega (arith, at, some, old.few, n)
+
+    parts : (k.alike ≡ true) × (nat_eq k.place m.place ≡ true)
+    parts = and_parts k.alike (nat_eq k.place m.place) said
+
+    own : get_or (buckets (laid ks row)) i 0 ≡ b
+    own = ap (λ x. get_or (buckets (laid ks row)) x 0) at ∙ old.own some
+
+    place_i : get_or (places ks) i 0 ≡ m.place
+    place_i = place-at ks i k l_i ∙ ap (λ (x : Kept). x.place) (sym here) ∙ eqb-true k.place m.place parts.1
+
+    flag : get_or (alikes ks) i false ≡ true
+    flag = alike-at ks i k l_i ∙ ap (λ (x : Kept). x.alike) (sym here) ∙ parts.0
+
+    at_place : (x : ℕ) → x ≤ i → get_or (places ks) x 0 ≡ m.place → is_echo_of w m (get_or (laid ks row) x (first_met m)) ≡ false
+    at_place x le p = own-place w m (get_or (laid ks row) x (first_met m)) (sym (laid-place ks row x (first_met m) (omega (arith, le, l_i))) ∙ p)
+
+    none : (x : ℕ) → x ≤ i → ((eqb x i ≡ true) × (x ≡ i)) ⊎ ((eqb x i ≡ false) × (x ≢ i)) → ((eqb (get_or (buckets (laid ks row)) x 0) b ≡ true) × (get_or (buckets (laid ks row)) x 0 ≡ b)) ⊎ ((eqb (get_or (buckets (laid ks row)) x 0) b ≡ false) × (get_or (buckets (laid ks row)) x 0 ≢ b))
+        → is_echo_of w m (get_or (laid ks row) x (first_met m)) ≡ false
+    none x le (inl same) bucket = at_place x le (ap (λ y. get_or (places ks) y 0) same.1 ∙ place_i)
+    none x le (inr away) (inl bucket) = at_place x le (h.alike i x (omega (arith, l_i, buckets-length ks row)) (omega (arith, le, away.1)) flag (bucket.1 ∙ sym own) ∙ place_i)
+    none x le (inr away) (inr other) = other-bucket w m (get_or (laid ks row) x (first_met m)) (λ same. other.1 (bucket-at (laid ks row) x (first_met m) (omega (arith, le, l_i, n)) ∙ same ∙ sym is))
+
+-- all frames with a bucket came in at a place, where the latest of them says so
+pub all-at : (gone passed : ℕ) (ks : List Kept) (row latest : List ℕ) (b place number i : ℕ) (k : Kept) → IsIndexed gone passed ks row latest → b < length latest → number ≡ get_or latest b 0
+    → gone < number → i ≡ number - gone - 1 → k ≡ get_or ks i k → (k.alike && nat_eq k.place place) ≡ true → IsAllAt (buckets (laid ks row)) (places ks) b place
+all-at gone passed ks row latest b place number i k h few told some at here said x l q = by (eqb_tells x i)
+  where
+    last : IsLatest gone (buckets (laid ks row)) (length (buckets (laid ks row))) b number
+    last = subst (λ y. IsLatest gone (buckets (laid ks row)) (length (buckets (laid ks row))) b y) (sym told) (h.linked.last b few)
+
+    l_i : i < length ks
+    l_i = omega (arith, at, some, last.few, buckets-length ks row)
+
+    parts : (k.alike ≡ true) × (nat_eq k.place place ≡ true)
+    parts = and_parts k.alike (nat_eq k.place place) said
+
+    own : get_or (buckets (laid ks row)) i 0 ≡ b
+    own = ap (λ y. get_or (buckets (laid ks row)) y 0) at ∙ last.own some
+
+    place_i : get_or (places ks) i 0 ≡ place
+    place_i = place-at ks i k l_i ∙ ap (λ (y : Kept). y.place) (sym here) ∙ eqb-true k.place place parts.1
+
+    flag : get_or (alikes ks) i false ≡ true
+    flag = alike-at ks i k l_i ∙ ap (λ (y : Kept). y.alike) (sym here) ∙ parts.0
+
+    further : (p : Bool) → nat_lt x i ≡ p → x ≢ i → get_or (places ks) x 0 ≡ place
+    further true z away = h.alike i x (omega (arith, l_i, buckets-length ks row)) (ltb-true x i z) flag (q ∙ sym own) ∙ place_i
+    further false z away = let far : i ≤ x = ltb-false x i z in absurd (last.none x l (omega (arith, far, away, at, some)) q)
+
+    by : ((eqb x i ≡ true) × (x ≡ i)) ⊎ ((eqb x i ≡ false) × (x ≢ i)) → get_or (places ks) x 0 ≡ place
+    by (inl same) = ap (λ y. get_or (places ks) y 0) same.1 ∙ place_i
+    by (inr away) = further (nat_lt x i) refl away.1
+
+-- no frame has a bucket whose number isn't greater than that of how many went
+pub none-at : (gone passed : ℕ) (ks : List Kept) (row latest : List ℕ) (b place number : ℕ) → IsIndexed gone passed ks row latest → b < length latest → number ≡ get_or latest b 0 → number ≤ gone
+    → IsAllAt (buckets (laid ks row)) (places ks) b place
+none-at gone passed ks row latest b place number h few told none x l q =
+    absurd ((h.linked.last b few).none x l (omega (arith, none, told)) q)

@@ -25,15 +25,32 @@ pub record IsLinked (gone : ℕ) (bs befores latest : List ℕ) : Type 0 where
   pub last : (b : ℕ) → b < length latest → IsLatest gone bs (length bs) b (get_or latest b 0)
   pub before : (j : ℕ) → j < length bs → IsLatest gone bs j (get_or bs j 0) (get_or befores j 0)
 
+-- where frames came in
+abbrev pub places : List Kept → List ℕ
+places ks = map (λ k. k.place) ks
+
+-- whether they say that those before them in their buckets came in there too
+abbrev pub alikes : List Kept → List Bool
+alikes ks = map (λ k. k.alike) ks
+
+-- all frames with a bucket came in at a place
+abbrev pub IsAllAt : List ℕ → List ℕ → ℕ → ℕ → Type 0
+IsAllAt bs ps bucket place = (i : ℕ) → i < length bs → get_or bs i 0 ≡ bucket → get_or ps i 0 ≡ place
+
+-- before a frame that says so none with its bucket came in elsewhere
+abbrev pub AreAlike : List ℕ → List ℕ → List Bool → Type 0
+AreAlike bs ps said = (j i : ℕ) → j < length bs → i < j → get_or said j false ≡ true → get_or bs i 0 ≡ get_or bs j 0 → get_or ps i 0 ≡ get_or ps j 0
+
 -- so many octets came before those of each frame
 abbrev pub IsPlaced : ℕ → List Kept → Type 0
 IsPlaced passed [] = ⊤
 IsPlaced passed (k ∷ ks) = (k.at ≡ passed) × IsPlaced (passed + k.length) ks
 
--- both
+-- all of it
 pub record IsIndexed (gone passed : ℕ) (ks : List Kept) (row latest : List ℕ) : Type 0 where
   pub linked : IsLinked gone (buckets (laid ks row)) (befores ks) latest
   pub placed : IsPlaced passed ks
+  pub alike : AreAlike (buckets (laid ks row)) (places ks) (alikes ks)
 
 -- the frames stand in the row, and are indexed where not too many went for numbers to tell places
 pub record IsKept (ks : List Kept) (row : List ℕ) (capacity gone passed : ℕ) (latest : List ℕ) : Type 0 where

@@ -1,5 +1,5 @@
 //! A frame that came in, but for its octets.
-ghost use Rattle.std.specs.Prelude.{◌≡◌, ◌+◌, ◌&&◌, nat_lt, [], ◌++◌};
+ghost use Rattle.std.specs.Prelude.{◌≡◌, ◌+◌, ◌&&◌, nat_eq, nat_lt, [], ◌++◌};
 ghost use Rattle.header_octets.specs.Octets.{is_same};
 ghost use Rattle.echo_window.specs.Echo.{is_awaited, is_echo_of, is_elsewhere, is_soon};
 ghost use Rattle.echo_window.specs.Laid.{came_of, told};
@@ -23,6 +23,8 @@ pub(crate) struct Kept {
     pub(crate) length: usize,
     /// The number of the frame before it in its bucket. It is kept where it is more than went.
     pub(crate) before: u64,
+    /// Whether all frames before it in its bucket came in where it did, as far as that is known.
+    pub(crate) alike: bool,
     /// Where it was met again.
     pub(crate) echoed: ArrayVec<u8, MOST_ECHOES>,
 }
@@ -46,6 +48,14 @@ impl Kept {
         ensures { result ≡ nat_lt (self.now.moment + within) moment }
     {
         self.moment < moment.saturating_sub(within)
+    }
+
+    /// Whether it and all frames before it in its bucket are known to have come in at a place.
+    #[inline(always)]
+    pub(crate) fn are_all_at(&self, place: u8) -> bool
+        ensures { result ≡ (self.now.alike && nat_eq self.now.place place) }
+    {
+        self.alike && self.place == place
     }
 
     /// Whether a record's place and moment are those of an echo.

@@ -1,9 +1,9 @@
 //! Which of the frames that are kept a record is an echo of.
-ghost use Rattle.std.specs.Prelude.{◌≡◌, ◌<◌, Some, if◌then◌else◌, length, slice_index_or};
+ghost use Rattle.std.specs.Prelude.{◌≡◌, ◌<◌, true, Some, if◌then◌else◌, length, slice_index_or};
 ghost use Rattle.std.specs.List.{position};
 ghost use Rattle.echo_window.specs.Bucket.{bucket_of};
 ghost use Rattle.echo_window.specs.Echo.{first_met, is_echo_of};
-ghost use Rattle.echo_window.specs.Index.{IsIndexed};
+ghost use Rattle.echo_window.specs.Index.{IsAllAt, IsIndexed, buckets, places};
 ghost use Rattle.echo_window.specs.Laid.{laid, lengths, told};
 
 use crate::index::Index;
@@ -13,7 +13,7 @@ use crate::row::Row;
 use std::collections::VecDeque;
 
 /// Which of some frames, whose octets stand in a row, a record is an echo of: of those with the bucket of its frame, from the
-/// latest to the earliest.
+/// latest to the earliest, up to one that came in at the record's place, as all before it did: those can't be sent there.
 pub(crate) fn find_linked(
     frames: &VecDeque<Kept>,
     row: &Row,
@@ -32,12 +32,40 @@ pub(crate) fn find_linked(
     let mut number = index.latest[bucket];
     while number > index.gone {
         let i = (number - index.gone - 1) as usize;
+        let kept = &frames[i];
+        if kept.are_all_at(met.place) {
+            return found;
+        }
         let is_echo = is_echo_at(frames, row, index, i, within, met);
         found = if_echo(is_echo, i, found);
-        let kept = &frames[i];
         number = kept.before;
     }
     found
+}
+
+/// Whether all frames with a bucket are known to have come in at a place.
+pub(crate) fn is_alike(
+    frames: &VecDeque<Kept>,
+    row: &Row,
+    index: &Index,
+    bucket: usize,
+    place: u8,
+) -> bool
+    requires indexed { index.now.gone < 4611686018427387904 → index.now.passed < 4611686018427387904
+        → IsIndexed index.now.gone index.now.passed frames.now.items row.now index.now.latest.items }
+    requires known { bucket < length index.now.latest.items }
+    ensures { result ≡ true → index.now.gone < 4611686018427387904 → index.now.passed < 4611686018427387904
+        → IsAllAt (buckets (laid frames.now.items row.now)) (places frames.now.items) bucket place }
+{
+    if !index.tells_places() {
+        return false;
+    }
+    let number = index.latest[bucket];
+    if number <= index.gone {
+        return true;
+    }
+    let latest = &frames[(number - index.gone - 1) as usize];
+    latest.are_all_at(place)
 }
 
 /// The index, where a record is an echo of the frame at it; else what was found behind it.

@@ -10,7 +10,7 @@ use crate::index::Index;
 use crate::kept::Kept;
 use crate::record::{Record, length_of};
 use crate::row::{MOST_OCTETS, Row};
-use crate::search::{find, find_linked};
+use crate::search::{find, find_linked, is_alike};
 use arrayvec::ArrayVec;
 use std::alloc::{AllocError, Global};
 use std::collections::VecDeque;
@@ -186,6 +186,7 @@ impl Window {
             moment: met.moment,
             at: self.index.octets_before(self.row.count()),
             length: length_of(met),
+            alike: is_alike(&self.frames, &self.row, &self.index, bucket, met.place),
             before: self.index.enter(bucket, self.frames.len()),
             echoed: ArrayVec::new(),
         };

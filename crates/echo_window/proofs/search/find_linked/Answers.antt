@@ -1,9 +1,9 @@
-use Rattle.std.proofs.Common.{◌-◌, arith}
+use Rattle.std.proofs.Common.{◌-◌, ◌∙◌, sym, arith}
 use Rattle.std.proofs.lemmas.List.{get_or_read}
 use Rattle.echo_window.specs.Echo.{first_met, is_echo_of}
 use Rattle.echo_window.specs.Laid.{laid, told}
 use Rattle.echo_window.proofs.Laying.{laid-length}
-use Rattle.echo_window.proofs.Searching.{finds-all, goes-begin, goes-down, goes-on}
+use Rattle.echo_window.proofs.Searching.{finds-all, found-all, goes-begin, goes-down, goes-on}
 use Rattle.echo_window.proofs.search.find_linked.Goals as goal
 
 pub loop-number-init : goal.loop-number-init
@@ -38,3 +38,9 @@ pub returns : goal.returns
 returns c =
     finds-all (is_echo_of c.args.within (told c.args.met.now)) (laid c.args.frames.now.items c.args.row.now) (first_met (told c.args.met.now)) (c.loop-number.number - c.args.index.now.gone) c.loop-number.found
     (omega (arith, c.loop-number-test.false)) c.loop-number.invariant.first
+
+pub returns-then-are_all_at : goal.returns-then-are_all_at
+returns-then-are_all_at c =
+    let i = c.loop-number.number - c.args.index.now.gone - 1 in
+    found-all c.args.index.now.gone c.args.index.now.passed c.args.frames.now.items c.args.row.now c.args.index.now.latest.items c.args.bucket c.args.within (told c.args.met.now) c.loop-number.number i c.index-kept.result.now
+    c.loop-number.found c.requires.indexed c.requires.bucket (omega (arith, c.loop-number-test.true)) (omega arith) c.index-kept.ensures (sym c.are_all_at.ensures ∙ c.if-are_all_at.true) c.loop-number.invariant

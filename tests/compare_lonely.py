@@ -22,7 +22,8 @@ def main():
         lengths[length] += 1
         frame = data[at - length : at]
         segment = f"vlan {int.from_bytes(frame[14:16], 'big') & 4095}" if frame[12:14] == b"\x81\0" else "untagged"
-        print(f"{seconds * 10**9 + fraction * unit} {place} sent alone length {length} record {number} {segment} event {events[number - 1]}")
+        moment, event = seconds * 10**9 + fraction * unit, events[number - 1]
+        print(f"{moment} {place} sent alone length {length} record {number} {segment} event {event}")
     print(f"{place}: sent {number}, received 0, both 0, sent alone {number}, received alone 0")
     for length in sorted(lengths):
         print(f"{place}: length {length}: both 0, sent alone {lengths[length]}, received alone 0")

@@ -2,8 +2,8 @@
 """Folders as a run leaves them beside captures of what went out, made of seeds: frames at ports, packets of both kinds of tunnel
 over both families at the underlay, other packets, and packets with faults; with loss, doubling, delay, clocks apart, fields that
 another sender chooses, and changed octets. What `tep compare --worked`, with settings and without, and `tep compare` tell of them
-is worked out here, by the table of docs/FORMATS.md ("Comparisons"). Usage: compare_made.py TEP FOLDER COUNT [FIRST]; prints what differs, and exits 1 where
-something does."""
+is worked out here, by the table of docs/FORMATS.md ("Comparisons"). Usage: compare_made.py TEP FOLDER COUNT [FIRST]; prints what differs,
+and exits 1 where something does."""
 import os
 import random
 import struct

@@ -6,4 +6,5 @@ set -u
 cd "$(dirname "$0")/.." || exit 1
 folder=$(mktemp -d)
 trap 'rm -rf "$folder"' EXIT
-python3 -B tests/compare_made.py ./tep "$folder" "${1:-300}" "${2:-0}" || { echo "tests/compare_made.sh: a folder is told otherwise"; exit 1; }
+python3 -B tests/compare_made.py ./tep "$folder" "${1:-300}" "${2:-0}" ||
+    { echo "tests/compare_made.sh: a folder is told otherwise"; exit 1; }

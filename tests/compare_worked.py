@@ -235,7 +235,8 @@ def main():
     if (done.returncode, done.stdout, done.stderr.split("\n")[0]) != (1, "", "settings: BadValue underlay.mtu"):
         print(f"compare_worked.py: settings that are refused: status {done.returncode}\n{done.stdout}{done.stderr}")
         failed = True
-    wants("no such settings", 3, "read none.toml\n  none.toml: no such file\n", "--worked", worked, "-s", "none.toml", "-u", underlay, *ports)
+    missing = "read none.toml\n  none.toml: no such file\n"
+    wants("no such settings", 3, missing, "--worked", worked, "-s", "none.toml", "-u", underlay, *ports)
     wants("settings without a run", 2, folderless, "-s", settings, *ports)
     write(underlay, UNDERLAY)
 

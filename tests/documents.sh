@@ -119,5 +119,6 @@ version=$(./tep --version | head -n 1)
 # Each file that a document names is there.
 while read -r page; do
     [ -e "$page" ] || complain "a document names $page, which isn't there"
-done < <(grep -ohE '\b(docs|examples|tests|bench)/[A-Za-z0-9_./]+\.[a-z]+' README.md docs/*.md bench/*.md examples/*.md examples/*/*.md | sort -u)
+done < <(grep -ohE '\b(docs|examples|tests|bench)/[A-Za-z0-9_./]+\.[a-z]+' README.md docs/*.md bench/*.md examples/*.md \
+    examples/*/*.md | sort -u)
 exit "$status"

@@ -130,7 +130,8 @@ class Case:
         lines = held.get("decisions.txt", b"").decode().splitlines(keepends=True)
         for name, size in needed([line for line in lines if line.endswith("\n")]).items():
             if name in held and lines:
-                asks(len(held[name]) >= size, f"{self.what}, {what}: {name} has {len(held[name])} octets, and {len(lines)} lines ask for {size}")
+                length = len(held[name])
+                asks(length >= size, f"{self.what}, {what}: {name} has {length} octets, and {len(lines)} lines ask for {size}")
 
 
 def told_at(said):
@@ -146,7 +147,8 @@ def full(case):
         what = f"{' and '.join(names)} at a full device"
         status, said, held = case.made(case.run, dict.fromkeys(names, "/dev/full"))
         asks(status == 3, f"{case.what}, {what}: status {status}")
-        asks(sorted(told_at(said)) == names and all(line.endswith(": no space left") for line in said[1:]), f"{case.what}, {what}: it says {said}")
+        is_told = sorted(told_at(said)) == names and all(line.endswith(": no space left") for line in said[1:])
+        asks(is_told, f"{case.what}, {what}: it says {said}")
         case.stands(held, what)
         if names[0] != "decisions.txt":
             asks(needed_more(case, held, names) == [], f"{case.what}, {what}: lines stand of records at a full device")

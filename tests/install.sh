@@ -41,7 +41,8 @@ told() {
 
 # stands FILE..: exactly these files stand below the folder, documents left out
 stands() {
-    diff <(cd "$1" && find . -type f ! -path './share/doc/*' | sort) <(printf './%s\n' "${@:2}" | sort) || complain "below $1 stand other files"
+    diff <(cd "$1" && find . -type f ! -path './share/doc/*' | sort) <(printf './%s\n' "${@:2}" | sort) ||
+        complain "below $1 stand other files"
 }
 
 # What isn't proved and built isn't installed, and nothing is made.

@@ -387,7 +387,8 @@ def merge_calls_of(folder, part, octets=None):
 
 def moved_in(counted):
     """The reads and the writes that strace counted."""
-    moved = {row.split()[-1]: int(row.split()[3]) for row in counted.read_text().splitlines() if row[:1] == " " and row.split()[0] != "100.00"}
+    rows = [row.split() for row in counted.read_text().splitlines() if row[:1] == " "]
+    moved = {row[-1]: int(row[3]) for row in rows if row[0] != "100.00"}
     return moved.get("read", 0) + moved.get("write", 0)
 
 

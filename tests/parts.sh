@@ -39,8 +39,10 @@ is_whole() {
     mkdir "$folder/merged"
     ./tep merge "${besides[@]}" --out "$folder/merged" "${@/#/$folder/}" >"$folder/stdout" 2>"$folder/stderr" ||
         complain "tep merge of $*: status $? and '$(cat "$folder/stderr")'"
-    diff "$folder/told" "$folder/stdout" >"$folder/differences" || complain "the merge of $* prints otherwise: $(head -n 3 "$folder/differences")"
-    diff -r "$folder/whole" "$folder/merged" >"$folder/differences" || complain "the merge of $* isn't the run: $(head -n 3 "$folder/differences")"
+    diff "$folder/told" "$folder/stdout" >"$folder/differences" ||
+        complain "the merge of $* prints otherwise: $(head -n 3 "$folder/differences")"
+    diff -r "$folder/whole" "$folder/merged" >"$folder/differences" ||
+        complain "the merge of $* isn't the run: $(head -n 3 "$folder/differences")"
 }
 
 # in_pairs WORDS..: a run cut into each pair of parts of the segments 10, 20, 30, the other VIDs, and what comes to no segment;
@@ -309,7 +311,8 @@ sed 's/^output u /output u 0/' "$folder/other/shard.txt" |
 broken shard.txt "shard.txt: the first line is not 'tep shard 2'" </dev/null
 sed 's/^segments .*/segments 16-4094,nothing/' "$folder/other/shard.txt" |
     broken shard.txt "shard.txt: an item of the list is no VID of 1 to 4094, no range of them and not 'none'"
-sed 's/^events .*/events 07/' "$folder/other/shard.txt" | broken shard.txt "shard.txt: behind the captures there is no line 'events' with a number"
+sed 's/^events .*/events 07/' "$folder/other/shard.txt" |
+    broken shard.txt "shard.txt: behind the captures there is no line 'events' with a number"
 head -n 1 "$folder/other/decisions.txt" | broken decisions.txt "decisions.txt has another number of events than shard.txt says"
 head -c -1 "$folder/other/decisions.txt" | broken decisions.txt "line NoEnd"
 sed '1s/^/x/' "$folder/other/decisions.txt" | broken decisions.txt "line Number"
@@ -388,7 +391,8 @@ sed 's/^segment 20 sent 3$/segment 20 sent 03/' "$folder/other/summary.txt" | br
 sed 's/^segment 20 /segment 4095 /' "$folder/other/summary.txt" | broken summary.txt "summary.txt: line 1" --summary
 sed '3{h;d};4G' "$folder/other/summary.txt" | broken summary.txt "summary.txt: line 3" --summary
 sed '/^place u out /d' "$folder/other/summary.txt" | broken summary.txt "summary.txt: line 10" --summary
-sed 's/^remote geneve:192.0.2.2 /remote geneve:192.0.2.02 /' "$folder/other/summary.txt" | broken summary.txt "summary.txt: line 11" --summary
+sed 's/^remote geneve:192.0.2.2 /remote geneve:192.0.2.02 /' "$folder/other/summary.txt" |
+    broken summary.txt "summary.txt: line 11" --summary
 sed '$s/ out 1 110$/ out 1/' "$folder/other/summary.txt" | broken summary.txt "summary.txt: line 11" --summary
 sed '$p' "$folder/other/summary.txt" | broken summary.txt "summary.txt: line 11" --summary
 sed 's/^segment 20 /segment 10 /' "$folder/other/tables.txt" | broken tables.txt "tables.txt: line 1" --tables
@@ -402,7 +406,8 @@ mkdir "$folder/added"
 rm -rf "$folder/broken"
 cp -r "$folder/other" "$folder/broken"
 sed -i 's/^place p1 in .*/place p1 in 18446744073709551615 18446744073709551614/' "$folder/broken/summary.txt"
-./tep merge --summary --out "$folder/added" "$folder/one" "$folder/broken" | grep -qx "place p1 in 18446744073709551615 18446744073709551615" ||
+./tep merge --summary --out "$folder/added" "$folder/one" "$folder/broken" |
+    grep -qx "place p1 in 18446744073709551615 18446744073709551615" ||
     complain "counts aren't added up to the greatest"
 
 # A part that runs again leaves nothing of the run before, and none of these files may be a capture that it reads.
@@ -410,8 +415,8 @@ runs one 1-15 "${whole[@]}"
 runs other 16-4094,none "${whole[@]}"
 [ ! -e "$folder/one/tables.txt" ] && [ ! -e "$folder/one/summary.txt" ] || complain "a part has tables and counts of another run"
 cp examples/port1.pcap "$folder/vids/summary.txt"
-refused 3 "write summary.txt" run --out vids --segments 10 --settings "$PWD/examples/a.toml" --underlay "$PWD/examples/underlay.pcap" vids/summary.txt \
-    "$PWD/examples/port2.pcap" "$PWD/examples/port3.pcap"
+refused 3 "write summary.txt" run --out vids --segments 10 --settings "$PWD/examples/a.toml" --underlay "$PWD/examples/underlay.pcap" \
+    vids/summary.txt "$PWD/examples/port2.pcap" "$PWD/examples/port3.pcap"
 
 # ---- digests that are lent
 
@@ -457,7 +462,8 @@ runs lent 16-4094,none "${with_changes[@]}" --underlay /dev/stdin "${ports[@]}" 
 is_other "a part of /dev/stdin, which is opened anew"
 
 # Interfaces of a pcapng capture: parts by digests of their own and by lent ones are of one run, and the same.
-tests/pcapng.py "$folder/all.pcapng" eth0=examples/underlay.pcap eth1="${ports[0]}" eth2="${ports[1]}" eth3="${ports[2]}" || complain "no pcapng capture"
+tests/pcapng.py "$folder/all.pcapng" eth0=examples/underlay.pcap eth1="${ports[0]}" eth2="${ports[1]}" eth3="${ports[2]}" ||
+    complain "no pcapng capture"
 all=$folder/all.pcapng
 interfaces=("$all#eth1" "$all#eth2" "$all#3")
 digests interfaces -u "$all#eth0" "${interfaces[@]}"
@@ -509,14 +515,16 @@ sed '/^capture p3/d' "$folder/digests" >"$folder/fewer"
 lends fewer "it has the digests of more or fewer ports" "$anew" "${here[@]}" "${captures[@]}"
 untouched "digests of two ports"
 refused 3 "read nowhere" run --out out --segments 16-4094,none --digests nowhere "${here[@]}" "${captures[@]}"
-refused 2 "error: --digests lends digests to a part of a run, and there is no --segments" run --out out --digests digests "${here[@]}" "${captures[@]}"
+refused 2 "error: --digests lends digests to a part of a run, and there is no --segments" \
+    run --out out --digests digests "${here[@]}" "${captures[@]}"
 
 # A capture with an octet more than when its digest was taken.
 { cat examples/port2.pcap && printf x; } >"$folder/more.pcap"
 longer=("${captures[@]}")
 longer[3]=$folder/more.pcap
 lends digests "it tells another number of octets of capture p2" "$anew" "${here[@]}" "${longer[@]}"
-[ -e "$folder/lent/shard.txt" ] && [ ! -s "$folder/lent/shard.txt" ] || complain "the shard.txt of a part that was refused tells $(cat "$folder/lent/shard.txt")"
+[ -e "$folder/lent/shard.txt" ] && [ ! -s "$folder/lent/shard.txt" ] ||
+    complain "the shard.txt of a part that was refused tells $(cat "$folder/lent/shard.txt")"
 rm -rf "$folder/lent"
 
 # The digest of another capture with as many octets isn't noticed by the run, but by the merge with a part that took its own.
@@ -548,7 +556,8 @@ wait $!
 [ "$(cat "$folder/stderr")" = "$folder/short.pcap: it had another number of octets when it was read again for its digest
   wait until the capture is written, and run the part again" ] ||
     complain "a part of a capture that grew: '$(cat "$folder/stderr")'"
-[ -e "$folder/growing/shard.txt" ] && [ ! -s "$folder/growing/shard.txt" ] || complain "the shard.txt of a part whose capture grew tells something"
+[ -e "$folder/growing/shard.txt" ] && [ ! -s "$folder/growing/shard.txt" ] ||
+    complain "the shard.txt of a part whose capture grew tells something"
 runs grown 1-15 "${growing[@]}"
 refused 1 "part growing: shard.txt: the first line is not 'tep shard 2'" merge --out out growing grown
 
@@ -562,7 +571,8 @@ merged_files=$(printf '%s\n' "${outputs[@]}")
 was_part() {
     rm -rf "$folder/old"
     runs old 1-15 --tables --summary "${whole[@]}"
-    [ "$(ls "$folder/old")" = "$(printf '%s\n' "${outputs[@]}" "${texts[@]}" | LC_ALL=C sort)" ] || complain "a part leaves $(ls "$folder/old")"
+    [ "$(ls "$folder/old")" = "$(printf '%s\n' "${outputs[@]}" "${texts[@]}" | LC_ALL=C sort)" ] ||
+        complain "a part leaves $(ls "$folder/old")"
 }
 
 rm -rf "$folder/whole"
@@ -587,7 +597,8 @@ for word in "${texts[@]}"; do
         cp -r "$folder/old" "$folder/before"
         # shellcheck disable=SC2086
         ./tep $how --out "$folder/old" 2>"$folder/stderr"
-        [ $? -eq 3 ] && [ "$(head -n 1 "$folder/stderr")" = "write $word" ] || complain "$how where $word is a folder: $(cat "$folder/stderr")"
+        [ $? -eq 3 ] && [ "$(head -n 1 "$folder/stderr")" = "write $word" ] ||
+            complain "$how where $word is a folder: $(cat "$folder/stderr")"
         for output in "${outputs[@]}"; do
             cmp "$folder/before/$output" "$folder/old/$output" || complain "$how where $word is a folder changes $output"
         done

@@ -173,7 +173,11 @@ impl Lanes {
     }
 
     /// Goes on behind the description of an interface, of so many octets, and says its number.
-    #[tactic(auto, using(crate::proofs::Told::within_more, crate::proofs::Told::within_append, crate::proofs::Told::lengthened, crate::proofs::Chosen::taken_append))]
+    #[tactic(auto, using(
+    // one lane more
+    crate::proofs::Told::within_more, crate::proofs::Told::within_append, crate::proofs::Told::lengthened,
+    // its interface is selected
+    crate::proofs::Chosen::taken_append))]
     fn describe(&mut self, size: u64, interface: Interface) -> Result<u32, AllocError>
         requires blocks { self.old.section.blocks + 1 < 2 ^ 64 }
         requires offset { self.old.section.offset + size < 2 ^ 64 }

@@ -22,7 +22,13 @@ pub enum Step {
 }
 
 /// Takes the block that what is held begins with, or tells how the text ends there.
-#[tactic(auto, using(crate::proofs::Passing::next_taken, crate::proofs::Passing::next_described, crate::proofs::Passing::held_whole, crate::proofs::Passing::held_cut, crate::proofs::Passing::held_refused, crate::proofs::Passing::placed_behind))]
+#[tactic(auto, using(
+// what is told, and described, of the next block
+crate::proofs::Passing::next_taken, crate::proofs::Passing::next_described,
+// what is held is a whole block, is cut, or is refused
+crate::proofs::Passing::held_whole, crate::proofs::Passing::held_cut, crate::proofs::Passing::held_refused,
+// where what is behind it stands
+crate::proofs::Passing::placed_behind))]
 fn take_held<R: Input>(
     gathered: &mut Gathered<R>,
     lanes: &mut Lanes,
@@ -53,7 +59,13 @@ fn take_held<R: Input>(
 /// put in place of what stood in `told`, and where it describes an interface, the name of that, empty where it has none.
 ///
 /// `Below`: a read failed, or none may be made any more. `NoMemory`: memory was refused. No more steps can be made then.
-#[tactic(auto, using(crate::proofs::Passing::next_held, crate::proofs::Passing::described_held, crate::proofs::Passing::passed_block, crate::proofs::Passing::passed_cut, crate::proofs::Passing::passed_unequal, crate::proofs::Passing::placed_past))]
+#[tactic(auto, using(
+// what is told, and described, of what is held
+crate::proofs::Passing::next_held, crate::proofs::Passing::described_held,
+// a block that is passed over is whole, is cut, or ends with another length
+crate::proofs::Passing::passed_block, crate::proofs::Passing::passed_cut, crate::proofs::Passing::passed_unequal,
+// where what is behind it stands
+crate::proofs::Passing::placed_past))]
 pub fn take_next<R: Input>(
     gathered: &mut Gathered<R>,
     lanes: &mut Lanes,

@@ -39,7 +39,8 @@ impl fmt::Display for Echoes {
         let words = EchoWords(tap);
         write!(
             f,
-            "{tap}: {echoes} of {records} {words} within 10 ms before: does this capture have what left, too? run --both, or tcpdump -Q in\n"
+            "{tap}: {echoes} of {records} {words} within 10 ms before: does this capture have what left, too? run --both, or \
+            tcpdump -Q in\n"
         )
     }
 }

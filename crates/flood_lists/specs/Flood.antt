@@ -1,5 +1,6 @@
 -- Flood lists, and the endpoint's own addresses. It states no standard.
-use Rattle.std.specs.Prelude.{◌≢◌, ℕ, Bool, false, not, ◌&&◌, ◌||◌, ◌==◌, nat_le, nat_lt, is_some, List, [], ◌∷◌, length, min, filter, replicate, Option, None, Some}
+use Rattle.std.specs.Prelude.{◌≢◌, ℕ, Bool, false, not, ◌&&◌, ◌||◌, ◌==◌, nat_le, nat_lt, is_some, List, [], ◌∷◌}
+use Rattle.std.specs.Prelude.{length, min, filter, replicate, Option, None, Some}
 use Rattle.std.specs.List.{AllPairs, list_any}
 use Rattle.header_octets.specs.Octets.{is_same}
 use Rattle.ip_udp_view.specs.declared.addr.Addr.{Addr}

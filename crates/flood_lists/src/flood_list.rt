@@ -1,5 +1,6 @@
 //! A flood list.
-ghost use Rattle.std.specs.Prelude.{◌≡◌, ◌≤◌, ◌==◌, ◌&&◌, ◌||◌, [], ◌∷◌, ◌++◌, IsTrue, None, length, if◌then◌else◌, is_ok, is_some, IfOk, OnOk, OnErr};
+ghost use Rattle.std.specs.Prelude.{◌≡◌, ◌≤◌, ◌==◌, ◌&&◌, ◌||◌, [], ◌∷◌, ◌++◌, IsTrue, None, length, if◌then◌else◌};
+ghost use Rattle.std.specs.Prelude.{is_ok, is_some, IfOk, OnOk, OnErr};
 ghost use Rattle.std.specs.List.{position};
 ghost use Rattle.flood_lists.specs.First.{first, fault_of};
 ghost use Rattle.flood_lists.specs.Flood.{IsWithoutRepeats, is_entry, is_wide, holds, add_faults, has_room, without};

@@ -1,7 +1,8 @@
 //! The words of kinds, tags and addresses.
 ghost use Rattle.std.specs.Prelude.{◌≡◌, ◌≤◌, ◌<◌, ◌+◌, Some, length};
 ghost use Rattle.header_octets.specs.Octets.{part};
-ghost use Rattle.lonely_records.specs.Words.{addr_word, eight_word, hex_octet, ip4_word, ip6_word, kind_word, pair_word, tag_word, vni_word};
+ghost use Rattle.lonely_records.specs.Words.{addr_word, eight_word, hex_octet, ip4_word, ip6_word, kind_word};
+ghost use Rattle.lonely_records.specs.Words.{pair_word, tag_word, vni_word};
 
 use ip_udp_view::{Addr, Tunnel};
 use std::fmt;

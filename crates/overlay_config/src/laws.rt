@@ -39,7 +39,8 @@ pub fn before_flood_limits()
 
 /// Settings of version 2 mean the same with 3 in place of their version.
 pub fn third_versions()
-    ensures { (members : Members) (s : Settings) → version_of (top members) ≡ Ok Two → settings_of members ≡ Ok s → settings_of (with_value (codes "version") (integer (pos 3)) members) ≡ Ok s }
+    ensures { (members : Members) (s : Settings) → version_of (top members) ≡ Ok Two → settings_of members ≡ Ok s
+        → settings_of (with_value (codes "version") (integer (pos 3)) members) ≡ Ok s }
 {}
 
 /// Migrated settings mean the same, and are migrated to themselves.
@@ -52,5 +53,6 @@ pub fn migrations()
 /// mean in version 2.
 pub fn unversioned_changes()
     ensures before { (members : Members) → get_member (codes "version") members ≡ None → changes_of members ≡ before.changes_of members }
-    ensures second { (members : Members) (changes : List TimedChange) → get_member (codes "version") members ≡ None → changes_of members ≡ Ok changes → changes_of (with_value (codes "version") (integer (pos 2)) members) ≡ Ok changes }
+    ensures second { (members : Members) (changes : List TimedChange) → get_member (codes "version") members ≡ None
+        → changes_of members ≡ Ok changes → changes_of (with_value (codes "version") (integer (pos 2)) members) ≡ Ok changes }
 {}

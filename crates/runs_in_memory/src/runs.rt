@@ -12,7 +12,7 @@ ghost use Rattle.runs_in_memory.specs.Left.{LeavesRun};
 use memory_files::{Memory, MemoryFile};
 use overlay_config::TimedChange;
 use program_faults::Failure;
-use program_files::{FailedOutputs, Names};
+use program_files::{Destination, FailedOutputs, Names};
 use runs_on_files::{Done, Scope, Texts, run_on_files};
 use stream_run::{TakesAll, Watch};
 
@@ -39,7 +39,10 @@ pub fn run_in_memory<'m, 'a, T: Watch>(
         names,
         texts,
         told,
-        Some(folder),
+        Some(Destination {
+            name: folder,
+            objects: false,
+        }),
         scope,
         &mut TakesAll,
         watch,

@@ -40,7 +40,8 @@ pub const SETTINGS_SENTENCES: [Sentence; 67] = [
         "limit",
         "3",
         "",
-        "the limits of all segments sum to 65536 at most, or to limits.addresses where it is given; limits.addresses raises it, up to 1048576",
+        "the limits of all segments sum to 65536 at most, or to limits.addresses where it is given; limits.addresses raises it, \
+        up to 1048576",
     ),
     (
         "limit",
@@ -109,7 +110,8 @@ pub const SETTINGS_SENTENCES: [Sentence; 67] = [
         "underlay.hop",
         "3",
         "OverLimit ",
-        "at most 64 tables with addr and mac, or as many as limits.hops says where it is given, each headed [[underlay.hop]]; limits.hops raises it, up to 4096",
+        "at most 64 tables with addr and mac, or as many as limits.hops says where it is given, each headed [[underlay.hop]]; \
+        limits.hops raises it, up to 4096",
     ),
     (
         "underlay.hop",
@@ -213,25 +215,30 @@ pub const SETTINGS_SENTENCES: [Sentence; 67] = [
         "segment.tunnel.flood",
         "3",
         "OverLimit ",
-        "a list of addresses in quotes, groups too, at most 16 over both tables, or as many as limits.flood says where it is given, none twice, none 0.0.0.0, 255.255.255.255, ::, an own address, or of a family without an own address; limits.flood raises it, up to 512",
+        "a list of addresses in quotes, groups too, at most 16 over both tables, or as many as limits.flood says where it is \
+        given, none twice, none 0.0.0.0, 255.255.255.255, ::, an own address, or of a family without an own address; limits.flood \
+        raises it, up to 512",
     ),
     (
         "segment.tunnel.flood",
         "",
         "OverLimit ",
-        "a list of addresses in quotes, groups too, at most 16 over both tables, none twice, none 0.0.0.0, 255.255.255.255, ::, an own address, or of a family without an own address; version 3 with limits.flood raises it",
+        "a list of addresses in quotes, groups too, at most 16 over both tables, none twice, none 0.0.0.0, 255.255.255.255, ::, \
+        an own address, or of a family without an own address; version 3 with limits.flood raises it",
     ),
     (
         "segment.tunnel.flood",
         "3",
         "",
-        "a list of addresses in quotes, groups too, at most 16 over both tables, or as many as limits.flood says where it is given, none twice, none 0.0.0.0, 255.255.255.255, ::, an own address, or of a family without an own address",
+        "a list of addresses in quotes, groups too, at most 16 over both tables, or as many as limits.flood says where it is \
+        given, none twice, none 0.0.0.0, 255.255.255.255, ::, an own address, or of a family without an own address",
     ),
     (
         "segment.tunnel.flood",
         "",
         "",
-        "a list of addresses in quotes, groups too, at most 16 over both tables, none twice, none 0.0.0.0, 255.255.255.255, ::, an own address, or of a family without an own address",
+        "a list of addresses in quotes, groups too, at most 16 over both tables, none twice, none 0.0.0.0, 255.255.255.255, ::, \
+        an own address, or of a family without an own address",
     ),
     (
         "segment.limit",
@@ -271,13 +278,15 @@ pub const SETTINGS_SENTENCES: [Sentence; 67] = [
         "segment.flood",
         "",
         "OverLimit ",
-        "a list of at most 16 addresses in quotes, groups too, none twice, none 0.0.0.0, 255.255.255.255, ::, an own address, or of a family without an own address; version 3 with limits.flood raises it",
+        "a list of at most 16 addresses in quotes, groups too, none twice, none 0.0.0.0, 255.255.255.255, ::, an own address, or \
+        of a family without an own address; version 3 with limits.flood raises it",
     ),
     (
         "segment.flood",
         "",
         "",
-        "a list of at most 16 addresses in quotes, groups too, none twice, none 0.0.0.0, 255.255.255.255, ::, an own address, or of a family without an own address",
+        "a list of at most 16 addresses in quotes, groups too, none twice, none 0.0.0.0, 255.255.255.255, ::, an own address, or \
+        of a family without an own address",
     ),
 ];
 

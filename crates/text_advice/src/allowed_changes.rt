@@ -38,7 +38,8 @@ pub const CHANGE_SENTENCES: [Sentence; 25] = [
         "change.kind",
         "",
         "",
-        "\"add_flood\", \"remove_flood\", \"fix\", \"unfix\", \"set_ageing\", \"set_learning\", \"set_member\", \"port_up\", \"port_down\", \"flush\", \"add_segment\", \"remove_segment\" or \"set_limit\"",
+        "\"add_flood\", \"remove_flood\", \"fix\", \"unfix\", \"set_ageing\", \"set_learning\", \"set_member\", \"port_up\", \
+        \"port_down\", \"flush\", \"add_segment\", \"remove_segment\" or \"set_limit\"",
     ),
     (
         "change.at",

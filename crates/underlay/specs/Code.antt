@@ -31,7 +31,8 @@ heads_code = code coded_ℕ heads.the_row.coded
 abbrev pub seats_code : Coded Seats
 seats_code =
     code_by (Segments × (FinMap nat_cmp SegmentHeads × (ℕ × ℕ))) (coded× segments_code (coded× heads_code (coded× coded_ℕ coded_ℕ)))
-    (λ s. (s.segments, (s.heads, (s.most, s.flood)))) (λ p. record { segments = p.0; heads = p.1.0; most = p.1.1.0; flood = p.1.1.1 }) (λ _. refl)
+    (λ s. (s.segments, (s.heads, (s.most, s.flood))))
+    (λ p. record { segments = p.0; heads = p.1.0; most = p.1.1.0; flood = p.1.1.1 }) (λ _. refl)
 
 -- an index of VIDs by VNIs, and the number for which there is room, are stored as a pair
 abbrev pub listed_code : Coded Listed

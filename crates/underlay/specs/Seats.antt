@@ -1,5 +1,6 @@
 -- The segments in rows that stand densely, behind an index of VIDs. It serves proofs.
-use Rattle.std.specs.Prelude.{◌≡◌, ℕ, ◌+◌, ◌<◌, Bool, false, ◌||◌, IsTrue, is_some, nat_le, List, [], ◌∷◌, length, Option, None, Some, Result, Ok, Err, get_or, map}
+use Rattle.std.specs.Prelude.{◌≡◌, ℕ, ◌+◌, ◌<◌, Bool, false, ◌||◌, IsTrue, is_some, nat_le, List, [], ◌∷◌, length}
+use Rattle.std.specs.Prelude.{Option, None, Some, Result, Ok, Err, get_or, map}
 use Rattle.std.specs.Option.{option_map, option_map_or, option_and_then}
 use Rattle.std.specs.Ordering.{nat_cmp}
 use Rattle.std.specs.FinMap.{FinMap}

@@ -227,7 +227,8 @@ impl Under {
     /// Puts an entry last on the flood list of a segment that is there. A list that refuses stays as it was.
     pub fn add_flood(&mut self, vid: Vid, kind: Tunnel, addr: Addr) -> Result<(), FloodFault>
         requires there { IsTrue (has_segment self.old vid) }
-        ensures fault { fault_of result ≡ first (add_faults (own self.old.underlay) self.old.underlay.limits.flood (flood_at self.old vid) kind addr) }
+        ensures fault { fault_of result
+            ≡ first (add_faults (own self.old.underlay) self.old.underlay.limits.flood (flood_at self.old vid) kind addr) }
         ensures added { OnOk result
             (self.new ≡ with_flood self.old vid (flood_at self.old vid ++ record { tunnel = kind; addr = addr } ∷ [])) }
         ensures refused { OnErr result (self.new ≡ self.old) }

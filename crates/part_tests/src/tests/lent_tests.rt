@@ -11,7 +11,9 @@ use timeline::Tap;
 const DIGESTS: [&str; 3] = [
     "tep digests 1/capture u 0 E/",
     "tep digests 1/capture p1 3 A/capture p2 0 E/capture u 18446744073709551615 A/",
-    "tep digests 1/capture p1 1 A/capture p2 2 A/capture p3 3 A/capture p4 4 A/capture p5 5 A/capture p6 6 A/capture p7 7 A/capture p8 8 A/capture p9 9 A/capture p10 10 A/capture p11 11 A/capture p12 12 A/capture p13 13 A/capture p14 14 A/capture p15 15 A/capture p16 16 E/capture u 7 E/",
+    "tep digests 1/capture p1 1 A/capture p2 2 A/capture p3 3 A/capture p4 4 A/capture p5 5 A/capture p6 6 A/capture p7 7 A/\
+    capture p8 8 A/capture p9 9 A/capture p10 10 A/capture p11 11 A/capture p12 12 A/capture p13 13 A/capture p14 14 A/\
+    capture p15 15 A/capture p16 16 E/capture u 7 E/",
 ];
 
 /// Whether a text is written again as it was read.

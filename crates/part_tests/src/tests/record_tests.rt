@@ -7,11 +7,21 @@ use timeline::Tap;
 
 /// Texts of records: of one port and of two, with changes and without, of 16 ports, and of captures that hold both directions.
 const RECORDS: [&str; 6] = [
-    "tep shard 2/segments 10,20-29,none/settings A/changes E/capture p1 A/capture u E/events 1234/output decisions 1 2 3 4/output u 0 24 5 6/output p1 1 24 0 18446744073709551615/",
-    "tep shard 2/segments all/settings E/capture p1 A/capture p2 E/capture u A/events 0/output decisions 1 2 3 4/output u 0 24 5 6/output p1 1 24 0 18446744073709551615/output p2 2 24 0 18446744073709551615/",
+    "tep shard 2/segments 10,20-29,none/settings A/changes E/capture p1 A/capture u E/events 1234/output decisions 1 2 3 4/\
+    output u 0 24 5 6/output p1 1 24 0 18446744073709551615/",
+    "tep shard 2/segments all/settings E/capture p1 A/capture p2 E/capture u A/events 0/output decisions 1 2 3 4/\
+    output u 0 24 5 6/output p1 1 24 0 18446744073709551615/output p2 2 24 0 18446744073709551615/",
     "tep shard 2/segments 4094/settings E/capture u A/events 18446744073709551615/output decisions 1 2 3 4/output u 0 24 5 6/",
-    "tep shard 2/segments none/settings A/capture p1 A/capture p2 A/capture p3 A/capture p4 A/capture p5 A/capture p6 A/capture p7 A/capture p8 A/capture p9 A/capture p10 A/capture p11 A/capture p12 A/capture p13 A/capture p14 A/capture p15 A/capture p16 E/capture u E/events 7/output decisions 1 2 3 4/output u 0 24 5 6/output p1 1 24 0 18446744073709551615/output p2 2 24 0 18446744073709551615/output p3 3 24 0 18446744073709551615/output p4 4 24 0 18446744073709551615/output p5 5 24 0 18446744073709551615/output p6 6 24 0 18446744073709551615/output p7 7 24 0 18446744073709551615/output p8 8 24 0 18446744073709551615/output p9 9 24 0 18446744073709551615/output p10 10 24 0 18446744073709551615/output p11 11 24 0 18446744073709551615/output p12 12 24 0 18446744073709551615/output p13 13 24 0 18446744073709551615/output p14 14 24 0 18446744073709551615/output p15 15 24 0 18446744073709551615/output p16 16 24 0 18446744073709551615/",
-    "tep shard 3/segments 1-9/settings A/changes E/capture p1 A/capture u E/both 10000000/events 12/output decisions 1 2 3 4/output u 0 24 5 6/output p1 1 24 0 18446744073709551615/",
+    "tep shard 2/segments none/settings A/capture p1 A/capture p2 A/capture p3 A/capture p4 A/capture p5 A/capture p6 A/\
+    capture p7 A/capture p8 A/capture p9 A/capture p10 A/capture p11 A/capture p12 A/capture p13 A/capture p14 A/capture p15 A/\
+    capture p16 E/capture u E/events 7/output decisions 1 2 3 4/output u 0 24 5 6/output p1 1 24 0 18446744073709551615/\
+    output p2 2 24 0 18446744073709551615/output p3 3 24 0 18446744073709551615/output p4 4 24 0 18446744073709551615/\
+    output p5 5 24 0 18446744073709551615/output p6 6 24 0 18446744073709551615/output p7 7 24 0 18446744073709551615/\
+    output p8 8 24 0 18446744073709551615/output p9 9 24 0 18446744073709551615/output p10 10 24 0 18446744073709551615/\
+    output p11 11 24 0 18446744073709551615/output p12 12 24 0 18446744073709551615/output p13 13 24 0 18446744073709551615/\
+    output p14 14 24 0 18446744073709551615/output p15 15 24 0 18446744073709551615/output p16 16 24 0 18446744073709551615/",
+    "tep shard 3/segments 1-9/settings A/changes E/capture p1 A/capture u E/both 10000000/events 12/output decisions 1 2 3 4/\
+    output u 0 24 5 6/output p1 1 24 0 18446744073709551615/",
     "tep shard 3/segments none/settings A/capture u E/both 18446744073709551615/events 0/output decisions 1 2 3 4/output u 0 24 5 6/",
 ];
 
@@ -218,7 +228,8 @@ const FAULTS: [(&str, PartRecordFault); 35] = [
         PartRecordFault::Output,
     ),
     (
-        "tep shard 2/segments 1/settings A/capture p1 A/capture u E/events 1/output decisions 1 2 3 4/output u 0 24 5 6/output p2 0 24 5 6/",
+        "tep shard 2/segments 1/settings A/capture p1 A/capture u E/events 1/output decisions 1 2 3 4/output u 0 24 5 6/\
+        output p2 0 24 5 6/",
         PartRecordFault::Output,
     ),
     (
@@ -248,63 +259,87 @@ fn tells_where_a_text_is_no_records(rt: HostRuntime) -> Result<(), Fail> {
 /// Two texts of records, and what is first different in them.
 const PAIRS: [(&str, &str, Option<Difference>); 12] = [
     (
-        "tep shard 2/segments 1/settings A/changes E/capture p1 A/capture u E/events 1/output decisions 1 2 3 4/output u 0 24 5 6/output p1 0 24 5 6/",
-        "tep shard 2/segments none/settings A/changes E/capture p1 A/capture u E/events 1/output decisions 1 2 3 4/output u 0 24 5 6/output p1 0 24 5 6/",
+        "tep shard 2/segments 1/settings A/changes E/capture p1 A/capture u E/events 1/output decisions 1 2 3 4/output u 0 24 5 6/\
+        output p1 0 24 5 6/",
+        "tep shard 2/segments none/settings A/changes E/capture p1 A/capture u E/events 1/output decisions 1 2 3 4/\
+        output u 0 24 5 6/output p1 0 24 5 6/",
         None,
     ),
     (
-        "tep shard 2/segments 1/settings A/changes E/capture p1 A/capture u E/events 1/output decisions 1 2 3 4/output u 0 24 5 6/output p1 0 24 5 6/",
-        "tep shard 2/segments 1/settings E/changes A/capture p1 E/capture u A/events 2/output decisions 1 2 3 4/output u 0 24 5 6/output p1 0 24 5 6/",
+        "tep shard 2/segments 1/settings A/changes E/capture p1 A/capture u E/events 1/output decisions 1 2 3 4/output u 0 24 5 6/\
+        output p1 0 24 5 6/",
+        "tep shard 2/segments 1/settings E/changes A/capture p1 E/capture u A/events 2/output decisions 1 2 3 4/output u 0 24 5 6/\
+        output p1 0 24 5 6/",
         Some(Difference::Settings),
     ),
     (
-        "tep shard 2/segments 1/settings A/changes E/capture p1 A/capture u E/events 1/output decisions 1 2 3 4/output u 0 24 5 6/output p1 0 24 5 6/",
-        "tep shard 2/segments 1/settings A/changes A/capture p1 E/capture u A/events 2/output decisions 1 2 3 4/output u 0 24 5 6/output p1 0 24 5 6/",
+        "tep shard 2/segments 1/settings A/changes E/capture p1 A/capture u E/events 1/output decisions 1 2 3 4/output u 0 24 5 6/\
+        output p1 0 24 5 6/",
+        "tep shard 2/segments 1/settings A/changes A/capture p1 E/capture u A/events 2/output decisions 1 2 3 4/output u 0 24 5 6/\
+        output p1 0 24 5 6/",
         Some(Difference::Changes),
     ),
     (
-        "tep shard 2/segments 1/settings A/changes E/capture p1 A/capture u E/events 1/output decisions 1 2 3 4/output u 0 24 5 6/output p1 0 24 5 6/",
-        "tep shard 2/segments 1/settings A/capture p1 A/capture u E/events 1/output decisions 1 2 3 4/output u 0 24 5 6/output p1 0 24 5 6/",
+        "tep shard 2/segments 1/settings A/changes E/capture p1 A/capture u E/events 1/output decisions 1 2 3 4/output u 0 24 5 6/\
+        output p1 0 24 5 6/",
+        "tep shard 2/segments 1/settings A/capture p1 A/capture u E/events 1/output decisions 1 2 3 4/output u 0 24 5 6/\
+        output p1 0 24 5 6/",
         Some(Difference::Changes),
     ),
     (
-        "tep shard 2/segments 1/settings A/capture p1 A/capture p2 A/capture u E/events 1/output decisions 1 2 3 4/output u 0 24 5 6/output p1 0 24 5 6/output p2 0 24 5 6/",
-        "tep shard 2/segments 1/settings A/capture p1 A/capture p2 E/capture u A/events 1/output decisions 1 2 3 4/output u 0 24 5 6/output p1 0 24 5 6/output p2 0 24 5 6/",
+        "tep shard 2/segments 1/settings A/capture p1 A/capture p2 A/capture u E/events 1/output decisions 1 2 3 4/\
+        output u 0 24 5 6/output p1 0 24 5 6/output p2 0 24 5 6/",
+        "tep shard 2/segments 1/settings A/capture p1 A/capture p2 E/capture u A/events 1/output decisions 1 2 3 4/\
+        output u 0 24 5 6/output p1 0 24 5 6/output p2 0 24 5 6/",
         Some(Difference::Capture(Tap::Port(2))),
     ),
     (
-        "tep shard 2/segments 1/settings A/capture p1 A/capture u E/events 1/output decisions 1 2 3 4/output u 0 24 5 6/output p1 0 24 5 6/",
-        "tep shard 2/segments 1/settings A/capture p1 A/capture p2 E/capture u E/events 1/output decisions 1 2 3 4/output u 0 24 5 6/output p1 0 24 5 6/output p2 0 24 5 6/",
+        "tep shard 2/segments 1/settings A/capture p1 A/capture u E/events 1/output decisions 1 2 3 4/output u 0 24 5 6/\
+        output p1 0 24 5 6/",
+        "tep shard 2/segments 1/settings A/capture p1 A/capture p2 E/capture u E/events 1/output decisions 1 2 3 4/\
+        output u 0 24 5 6/output p1 0 24 5 6/output p2 0 24 5 6/",
         Some(Difference::Capture(Tap::Port(2))),
     ),
     (
-        "tep shard 2/segments 1/settings A/capture p1 A/capture u E/events 1/output decisions 1 2 3 4/output u 0 24 5 6/output p1 0 24 5 6/",
-        "tep shard 2/segments 1/settings A/capture p1 A/capture u A/events 2/output decisions 1 2 3 4/output u 0 24 5 6/output p1 0 24 5 6/",
+        "tep shard 2/segments 1/settings A/capture p1 A/capture u E/events 1/output decisions 1 2 3 4/output u 0 24 5 6/\
+        output p1 0 24 5 6/",
+        "tep shard 2/segments 1/settings A/capture p1 A/capture u A/events 2/output decisions 1 2 3 4/output u 0 24 5 6/\
+        output p1 0 24 5 6/",
         Some(Difference::Capture(Tap::Underlay)),
     ),
     (
-        "tep shard 3/segments 1/settings A/capture p1 A/capture u E/both 10000000/events 1/output decisions 1 2 3 4/output u 0 24 5 6/output p1 0 24 5 6/",
-        "tep shard 3/segments 2/settings A/capture p1 A/capture u E/both 10000000/events 2/output decisions 1 2 3 4/output u 0 24 5 6/output p1 0 24 5 6/",
+        "tep shard 3/segments 1/settings A/capture p1 A/capture u E/both 10000000/events 1/output decisions 1 2 3 4/\
+        output u 0 24 5 6/output p1 0 24 5 6/",
+        "tep shard 3/segments 2/settings A/capture p1 A/capture u E/both 10000000/events 2/output decisions 1 2 3 4/\
+        output u 0 24 5 6/output p1 0 24 5 6/",
         None,
     ),
     (
-        "tep shard 3/segments 1/settings A/capture p1 A/capture u E/both 10000000/events 1/output decisions 1 2 3 4/output u 0 24 5 6/output p1 0 24 5 6/",
-        "tep shard 2/segments 2/settings A/capture p1 A/capture u E/events 2/output decisions 1 2 3 4/output u 0 24 5 6/output p1 0 24 5 6/",
+        "tep shard 3/segments 1/settings A/capture p1 A/capture u E/both 10000000/events 1/output decisions 1 2 3 4/\
+        output u 0 24 5 6/output p1 0 24 5 6/",
+        "tep shard 2/segments 2/settings A/capture p1 A/capture u E/events 2/output decisions 1 2 3 4/output u 0 24 5 6/\
+        output p1 0 24 5 6/",
         Some(Difference::Both),
     ),
     (
-        "tep shard 3/segments 1/settings A/capture p1 A/capture u E/both 10000000/events 1/output decisions 1 2 3 4/output u 0 24 5 6/output p1 0 24 5 6/",
-        "tep shard 3/segments 2/settings A/capture p1 A/capture u E/both 2000000/events 2/output decisions 1 2 3 4/output u 0 24 5 6/output p1 0 24 5 6/",
+        "tep shard 3/segments 1/settings A/capture p1 A/capture u E/both 10000000/events 1/output decisions 1 2 3 4/\
+        output u 0 24 5 6/output p1 0 24 5 6/",
+        "tep shard 3/segments 2/settings A/capture p1 A/capture u E/both 2000000/events 2/output decisions 1 2 3 4/\
+        output u 0 24 5 6/output p1 0 24 5 6/",
         Some(Difference::Both),
     ),
     (
-        "tep shard 3/segments 1/settings A/capture p1 A/capture u E/both 10000000/events 1/output decisions 1 2 3 4/output u 0 24 5 6/output p1 0 24 5 6/",
-        "tep shard 3/segments 2/settings A/capture p1 A/capture u A/both 2000000/events 2/output decisions 1 2 3 4/output u 0 24 5 6/output p1 0 24 5 6/",
+        "tep shard 3/segments 1/settings A/capture p1 A/capture u E/both 10000000/events 1/output decisions 1 2 3 4/\
+        output u 0 24 5 6/output p1 0 24 5 6/",
+        "tep shard 3/segments 2/settings A/capture p1 A/capture u A/both 2000000/events 2/output decisions 1 2 3 4/\
+        output u 0 24 5 6/output p1 0 24 5 6/",
         Some(Difference::Capture(Tap::Underlay)),
     ),
     (
-        "tep shard 2/segments 1/settings A/capture p1 A/capture u E/events 1/output decisions 1 2 3 4/output u 0 24 5 6/output p1 0 24 5 6/",
-        "tep shard 2/segments 1/settings A/capture p1 A/capture u E/events 2/output decisions 7 8 9 10/output u 11 12 13 14/output p1 15 16 17 18/",
+        "tep shard 2/segments 1/settings A/capture p1 A/capture u E/events 1/output decisions 1 2 3 4/output u 0 24 5 6/\
+        output p1 0 24 5 6/",
+        "tep shard 2/segments 1/settings A/capture p1 A/capture u E/events 2/output decisions 7 8 9 10/output u 11 12 13 14/\
+        output p1 15 16 17 18/",
         None,
     ),
 ];

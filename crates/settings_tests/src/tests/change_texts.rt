@@ -161,14 +161,22 @@ kind = "remove_segment"
 at = 4
 vid = 30
 "#,
-            r#"1: AddSegment(NewSegment { vid: Vid { number: 30 }, tunnels: Tunnels { first: SegmentTunnel { kind: Geneve, vni: Vni { number: 7000 }, group: 0 }, second: None }, limit: 256, ageing: 300, learning: true, peers: Any, tags: Drop })
-2: AddSegment(NewSegment { vid: Vid { number: 4094 }, tunnels: Tunnels { first: SegmentTunnel { kind: Vxlan, vni: Vni { number: 16777215 }, group: 0 }, second: None }, limit: 0, ageing: 4294967295, learning: false, peers: Listed, tags: Pass })
-2: AddSegment(NewSegment { vid: Vid { number: 31 }, tunnels: Tunnels { first: SegmentTunnel { kind: Vxlan, vni: Vni { number: 0 }, group: 255 }, second: None }, limit: 256, ageing: 300, learning: true, peers: Any, tags: Drop })
-2: AddSegment(NewSegment { vid: Vid { number: 32 }, tunnels: Tunnels { first: SegmentTunnel { kind: Vxlan, vni: Vni { number: 5000 }, group: 0 }, second: Some(SegmentTunnel { kind: Geneve, vni: Vni { number: 9000 }, group: 0 }) }, limit: 256, ageing: 300, learning: true, peers: Any, tags: Drop })
-2: AddSegment(NewSegment { vid: Vid { number: 33 }, tunnels: Tunnels { first: SegmentTunnel { kind: Geneve, vni: Vni { number: 9000 }, group: 1 }, second: Some(SegmentTunnel { kind: Vxlan, vni: Vni { number: 9000 }, group: 2 }) }, limit: 1, ageing: 300, learning: true, peers: Any, tags: Drop })
-3: SetLimit { vid: Vid { number: 30 }, limit: 4294967295 }
-4: RemoveSegment { vid: Vid { number: 30 } }
-"#,
+            "\
+1: AddSegment(NewSegment { vid: Vid { number: 30 }, tunnels: Tunnels { first: SegmentTunnel { kind: Geneve, \
+vni: Vni { number: 7000 }, group: 0 }, second: None }, limit: 256, ageing: 300, learning: true, peers: Any, tags: Drop })\n\
+2: AddSegment(NewSegment { vid: Vid { number: 4094 }, tunnels: Tunnels { first: SegmentTunnel { kind: Vxlan, \
+vni: Vni { number: 16777215 }, group: 0 }, second: None }, limit: 0, ageing: 4294967295, learning: false, peers: Listed, \
+tags: Pass })\n\
+2: AddSegment(NewSegment { vid: Vid { number: 31 }, tunnels: Tunnels { first: SegmentTunnel { kind: Vxlan, vni: Vni { number: 0 }, \
+group: 255 }, second: None }, limit: 256, ageing: 300, learning: true, peers: Any, tags: Drop })\n\
+2: AddSegment(NewSegment { vid: Vid { number: 32 }, tunnels: Tunnels { first: SegmentTunnel { kind: Vxlan, vni: Vni { number: 5000 }, \
+group: 0 }, second: Some(SegmentTunnel { kind: Geneve, vni: Vni { number: 9000 }, group: 0 }) }, limit: 256, ageing: 300, \
+learning: true, peers: Any, tags: Drop })\n\
+2: AddSegment(NewSegment { vid: Vid { number: 33 }, tunnels: Tunnels { first: SegmentTunnel { kind: Geneve, \
+vni: Vni { number: 9000 }, group: 1 }, second: Some(SegmentTunnel { kind: Vxlan, vni: Vni { number: 9000 }, group: 2 }) }, limit: 1, \
+ageing: 300, learning: true, peers: Any, tags: Drop })\n\
+3: SetLimit { vid: Vid { number: 30 }, limit: 4294967295 }\n\
+4: RemoveSegment { vid: Vid { number: 30 } }\n",
         ),
     ]
 }

@@ -1,9 +1,7 @@
 -- What is kept of the frames that came in.
-use Rattle.std.proofs.Common.{◌≡◌, ℕ, ◌+◌, ◌<◌, ◌≤◌, Bool, true, false, nat_eq, nat_lt, nat_le, not, ◌&&◌, List, [], ◌∷◌, ◌++◌, length, refl, ap, sym, ◌∙◌, arith, length-append}
-use borrow.Author.Tests.{leb-true, ltb-true}
-use Rattle.echo_window.specs.Echo.{Came, Record, fits, is_awaited, is_echo_of, is_elsewhere, is_soon, newest, octets_of}
-use Rattle.std.specs.List.{list_any}
-use Rattle.header_octets.specs.Octets.{is_same}
+use Rattle.std.proofs.Common.{◌≡◌, ℕ, ◌+◌, ◌≤◌, Bool, true, false, nat_le, ◌&&◌, List, [], ◌∷◌, ◌++◌, length, refl, ap, sym, ◌∙◌, arith, length-append}
+use borrow.Author.Tests.{leb-true}
+use Rattle.echo_window.specs.Echo.{Came, fits, newest, octets_of}
 
 -- frames that fit stay
 pub newest-fits : (cs : List Came) → fits cs ≡ true → newest cs ≡ cs
@@ -32,12 +30,3 @@ pub fits-told : (cs : List Came) (c : Came) → fits (cs ++ c ∷ []) ≡ true �
 fits-told cs c h =
     let e = both_true (nat_le (length cs + 1) 4096) (nat_le (octets_of cs + length c.frame) 4194304) (sym (fits-put cs c) ∙ h) in
     (leb-true (length cs + 1) 4096 e.0, leb-true (octets_of cs + length c.frame) 4194304 e.1)
-
--- a frame that a record is an echo of was met again at few places
-pub awaited-few : (within : ℕ) (r : Record) (c : Came) → is_echo_of within r c ≡ true → length c.echoed < 255
-awaited-few within r c h =
-    let outer = both_true (is_elsewhere r c && (is_soon within r c && is_awaited r c)) (is_same c.frame r.frame) h in
-    let inner = both_true (is_elsewhere r c) (is_soon within r c && is_awaited r c) outer.0 in
-    let last = both_true (is_soon within r c) (is_awaited r c) inner.1 in
-    let few = both_true (nat_lt (length c.echoed) 255) (not (list_any (λ place. nat_eq place r.place) c.echoed)) last.1 in
-    ltb-true (length c.echoed) 255 few.0

@@ -2,6 +2,7 @@ mod Firsts
 mod Indexing
 mod Keeping
 mod Laying
+mod Placing
 mod Showing
 mod Texts
 mod Recent

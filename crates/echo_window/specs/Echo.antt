@@ -6,9 +6,9 @@
 --     echo_of      where the frame came in that a record is an echo of
 --     after        the frames that came in, once a record was met
 --     echoes       the same for records in a row
-use Rattle.std.specs.Prelude.{ℕ, ◌+◌, nat_eq, nat_lt, nat_le, ◌&&◌, not, if◌then◌else◌, Bool, List, []}
-use Rattle.std.specs.Prelude.{◌∷◌, ◌++◌, length, Option, Some, None, option_map, set, slice_index_or}
-use Rattle.std.specs.List.{find, flat_map, list_any, position}
+use Rattle.std.specs.Prelude.{ℕ, ◌+◌, nat_eq, nat_lt, nat_le, ◌&&◌, not, if◌then◌else◌, Bool, false, true, List, []}
+use Rattle.std.specs.Prelude.{◌∷◌, ◌++◌, get_or, length, Option, Some, None, option_map, replicate, set, slice_index_or}
+use Rattle.std.specs.List.{find, flat_map, position}
 use Rattle.header_octets.specs.Octets.{is_same}
 
 -- a record of a capture: the place where it was captured, its moment in nanoseconds, and the octets of its frame without tag
@@ -17,12 +17,12 @@ pub record Record : Type 0 where
   pub moment : ℕ
   pub frame : List ℕ
 
--- a frame that came in, which is a record that is no echo; and the places where it was met again
+-- a frame that came in, which is a record that is no echo; and by the numbers of 256 places whether it was met again there
 pub record Came : Type 0 where
   pub place : ℕ
   pub moment : ℕ
   pub frame : List ℕ
-  pub echoed : List ℕ
+  pub echoed : List Bool
 
 -- a record is of another place than a frame that came in
 abbrev pub is_elsewhere : Record → Came → Bool
@@ -32,9 +32,9 @@ is_elsewhere r c = not (nat_eq c.place r.place)
 abbrev pub is_soon : ℕ → Record → Came → Bool
 is_soon within r c = nat_le c.moment r.moment && nat_le r.moment (c.moment + within)
 
--- the frame wasn't met again at that place yet, and at fewer than 255: there are so many beside its own
+-- the frame wasn't met again at that place yet
 abbrev pub is_awaited : Record → Came → Bool
-is_awaited r c = nat_lt (length c.echoed) 255 && not (list_any (λ place. nat_eq place r.place) c.echoed)
+is_awaited r c = not (get_or c.echoed r.place false)
 
 -- a record is an echo of a frame that came in: at another place, soon after, for the first time there, and octet for octet
 abbrev pub is_echo_of : ℕ → Record → Came → Bool
@@ -60,11 +60,11 @@ newest (c ∷ came) = if fits (c ∷ came) then c ∷ came else newest came
 
 -- a record that is no echo is a frame that came in, met nowhere else yet
 abbrev pub first_met : Record → Came
-first_met r = record { place = r.place; moment = r.moment; frame = r.frame; echoed = [] }
+first_met r = record { place = r.place; moment = r.moment; frame = r.frame; echoed = replicate 256 false }
 
 -- a frame, met again at a place
 abbrev pub met_at : ℕ → Came → Came
-met_at place c = record { place = c.place; moment = c.moment; frame = c.frame; echoed = c.echoed ++ place ∷ [] }
+met_at place c = record { place = c.place; moment = c.moment; frame = c.frame; echoed = set c.echoed place true }
 
 -- frames, of which the one at an index was met again at the place of a record
 abbrev pub met_again : Record → List Came → ℕ → List Came

@@ -39,7 +39,8 @@ IsAllAt bs ps bucket place = (i : ℕ) → i < length bs → get_or bs i 0 ≡ b
 
 -- before a frame that says so none with its bucket came in elsewhere
 abbrev pub AreAlike : List ℕ → List ℕ → List Bool → Type 0
-AreAlike bs ps said = (j i : ℕ) → j < length bs → i < j → get_or said j false ≡ true → get_or bs i 0 ≡ get_or bs j 0 → get_or ps i 0 ≡ get_or ps j 0
+AreAlike bs ps said = (j i : ℕ) → j < length bs → i < j → get_or said j false ≡ true → get_or bs i 0 ≡ get_or bs j 0
+    → get_or ps i 0 ≡ get_or ps j 0
 
 -- so many octets came before those of each frame
 abbrev pub IsPlaced : ℕ → List Kept → Type 0

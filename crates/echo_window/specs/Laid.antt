@@ -10,7 +10,7 @@ told r = record { place = r.place; moment = r.moment; frame = r.addresses.now ++
 
 -- a frame with its octets
 abbrev pub came_of : Kept → List ℕ → Came
-came_of k frame = record { place = k.place; moment = k.moment; frame = frame; echoed = k.echoed.items }
+came_of k frame = record { place = k.place; moment = k.moment; frame = frame; echoed = k.echoed }
 
 -- how many octets frames have together
 abbrev pub lengths : List Kept → ℕ

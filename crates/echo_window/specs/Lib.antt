@@ -2,4 +2,5 @@ pub mod Bucket
 pub mod Echo
 pub mod Index
 pub mod Laid
+pub mod Places
 pub mod Ring

@@ -4,11 +4,8 @@ ghost use Rattle.header_octets.specs.Octets.{is_same};
 ghost use Rattle.echo_window.specs.Echo.{is_awaited, is_echo_of, is_elsewhere, is_soon};
 ghost use Rattle.echo_window.specs.Laid.{came_of, told};
 
+use crate::place_set::PlaceSet;
 use crate::record::{Record, length_of};
-use arrayvec::ArrayVec;
-
-/// At how many places a frame is met again at most: as many as there are beside its own.
-const MOST_ECHOES: usize = 255;
 
 /// A frame that came in, but for its octets, which stand elsewhere.
 #[derive(Drop)]
@@ -26,7 +23,7 @@ pub(crate) struct Kept {
     /// Whether all frames before it in its bucket came in where it did, as far as that is known.
     pub(crate) alike: bool,
     /// Where it was met again.
-    pub(crate) echoed: ArrayVec<u8, MOST_ECHOES>,
+    pub(crate) echoed: PlaceSet,
 }
 
 impl Kept {
@@ -74,11 +71,11 @@ impl Kept {
         self.moment <= met.moment && met.moment - self.moment <= within
     }
 
-    /// Whether the frame wasn't met again at a record's place yet, and may be.
+    /// Whether the frame wasn't met again at a record's place yet.
     fn is_awaited(&self, met: &Record) -> bool
         ensures { result ≡ is_awaited (told met.now) (came_of self.now []) }
     {
-        !self.echoed.is_full() && !self.echoed.as_slice().contains(&met.place)
+        !self.echoed.has(met.place)
     }
 }
 

@@ -5,11 +5,11 @@
 //! whether it is an echo of a frame that came in: met at another place, soon after, for the first time there, octet for
 //! octet. Captures aren't read here.
 //!
-//! Specs to read: `specs/Echo`. `specs/Laid`, `specs/Ring`, `specs/Bucket` and `specs/Index` serve proofs.
+//! Specs to read: `specs/Echo`. `specs/Laid`, `specs/Ring`, `specs/Bucket`, `specs/Index` and `specs/Places` serve proofs.
 //!
 //! Proved: of every row of records, each is an echo exactly where the definition says so, and the frames that are kept behind
 //! it are those of the definition: those that came in at most so long before, of these the latest, at most 4,096 and 4 MiB of
-//! octets together. Only [`Window::new`] takes memory, some 5 MiB.
+//! octets together. Only [`Window::new`] takes memory, some 4.5 MiB.
 //!
 //! Why it is so: a frame that is sent on comes out within moments, so what came in earlier is forgotten, and a bound on what
 //! is kept costs nothing but where more comes in than fits. A frame is met again once at each place that it is sent to: so a
@@ -24,6 +24,7 @@
 mod bucket;
 mod index;
 mod kept;
+mod place_set;
 mod record;
 mod row;
 mod search;

@@ -8,10 +8,10 @@ ghost use Rattle.echo_window.specs.Laid.{begins_past, told};
 use crate::bucket::bucket_of;
 use crate::index::Index;
 use crate::kept::Kept;
+use crate::place_set::PlaceSet;
 use crate::record::{Record, length_of};
 use crate::row::{MOST_OCTETS, Row};
 use crate::search::{find, find_linked, is_alike};
-use arrayvec::ArrayVec;
 use std::alloc::{AllocError, Global};
 use std::collections::VecDeque;
 use std::marker::Model;
@@ -125,12 +125,11 @@ impl Window {
     /// Notes that a frame was met again at the place of a record. Where it came in is told.
     fn mark(&mut self, i: usize, met: &Record) -> u8
         requires there { i < length self.old.came }
-        requires room { length (slice_index_or self.old.came i (first_met (told met.now))).echoed < 255 }
         ensures place { result ≡ (slice_index_or self.old.came i (first_met (told met.now))).place }
         ensures came { self.new ≡ record self.old { came = met_again (told met.now) self.old.came i } }
     {
         let kept = &mut self.frames[i];
-        kept.echoed.push(met.place);
+        kept.echoed.add(met.place);
         kept.place
     }
 
@@ -188,7 +187,7 @@ impl Window {
             length: length_of(met),
             alike: is_alike(&self.frames, &self.row, &self.index, bucket, met.place),
             before: self.index.enter(bucket, self.frames.len()),
-            echoed: ArrayVec::new(),
+            echoed: PlaceSet::new(),
         };
         self.row.put(met.addresses, met.rest);
         self.frames.push_back_reserved(kept);

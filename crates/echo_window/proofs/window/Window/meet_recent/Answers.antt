@@ -2,14 +2,7 @@ use Rattle.std.proofs.Common.{Some, sym, ap, ◌∙◌, option_map}
 use Rattle.echo_window.specs.Echo.{Came, first_met, is_echo_of}
 use Rattle.echo_window.specs.Laid.{told}
 use Rattle.echo_window.proofs.Firsts.{found_at, found_nowhere}
-use Rattle.echo_window.proofs.Keeping.{awaited-few}
 use Rattle.echo_window.proofs.window.Window.meet_recent.Goals as goal
-
-pub mark-requires-clause-room : goal.mark-requires-clause-room
-mark-requires-clause-room c =
-    let m = told c.args.met.now in
-    let here = found_at (is_echo_of c.args.self.now.within m) c.args.self.now.came c.in-Some.i (first_met m) c.in-Some.ensures in
-    awaited-few c.args.self.now.within m _ here.1
 
 pub returns-in-Some-clause-answer : goal.returns-in-Some-clause-answer
 returns-in-Some-clause-answer c =

@@ -29,7 +29,7 @@ _tep() {
     fi
     COMPREPLY=()
     if [ "$COMP_CWORD" -eq 1 ]; then
-        _tep_offers words "run check explain migrate digest merge split compare help --help --version"
+        _tep_offers words "run check explain migrate digest merge split compare report help --help --version"
         return
     fi
     case ${COMP_WORDS[1]} in
@@ -38,14 +38,14 @@ _tep() {
                 -s,* | --settings,* | -c,* | --changes,* | -u,* | --underlay,* | --digests,*) _tep_offers files ;;
                 -o,* | --out,*) _tep_offers folders ;;
                 --within,* | --tables-at,* | --why,* | --segments,*) _tep_offers words "" ;;
-                *,-*) _tep_offers words "--settings --changes --underlay --out --both --within --tables --tables-at --why --summary --talkers --segments --digests --help --version" ;;
+                *,-*) _tep_offers words "--settings --changes --underlay --out --both --within --tables --tables-at --why --summary --talkers --json --segments --digests --quiet --help --version" ;;
                 *) _tep_offers files ;;
             esac
             ;;
         check)
             case $before,$cur in
                 -s,* | --settings,* | -c,* | --changes,* | -u,* | --underlay,*) _tep_offers files ;;
-                *,-*) _tep_offers words "--settings --changes --underlay --help --version" ;;
+                *,-*) _tep_offers words "--settings --changes --underlay --json --help --version" ;;
                 *) _tep_offers files ;;
             esac
             ;;
@@ -53,7 +53,7 @@ _tep() {
             case $before,$cur in
                 -s,* | --settings,*) _tep_offers files ;;
                 -d,* | --depth,*) _tep_offers words "1 2 3 4" ;;
-                *,-*) _tep_offers words "--settings --depth --values --help --version" ;;
+                *,-*) _tep_offers words "--settings --depth --values --json --help --version" ;;
                 *) _tep_offers files ;;
             esac
             ;;
@@ -74,7 +74,7 @@ _tep() {
         merge)
             case $before,$cur in
                 -o,* | --out,*) _tep_offers folders ;;
-                *,-*) _tep_offers words "--out --tables --summary --help --version" ;;
+                *,-*) _tep_offers words "--out --tables --summary --json --help --version" ;;
                 *) _tep_offers folders ;;
             esac
             ;;
@@ -90,11 +90,18 @@ _tep() {
                 --worked,*) _tep_offers folders ;;
                 -u,* | --underlay,* | -s,* | --settings,*) _tep_offers files ;;
                 --within,* | --shift,* | --by,* | --ignore,*) _tep_offers words "" ;;
-                *,-*) _tep_offers words "--worked --underlay --settings --strict --within --shift --list --by --ignore --help --version" ;;
+                *,-*) _tep_offers words "--worked --underlay --settings --strict --within --shift --list --by --ignore --json --help --version" ;;
                 *) _tep_offers files ;;
             esac
             ;;
-        help) [ "$COMP_CWORD" -gt 2 ] || _tep_offers words "run check explain migrate digest merge split compare help" ;;
+        report)
+            case $before,$cur in
+                -o,* | --out,*) _tep_offers files ;;
+                *,-*) _tep_offers words "--out --help --version" ;;
+                *) _tep_offers folders ;;
+            esac
+            ;;
+        help) [ "$COMP_CWORD" -gt 2 ] || _tep_offers words "run check explain migrate digest merge split compare report help" ;;
     esac
 }
 

@@ -207,7 +207,11 @@ packets=$(grep -c '^[0-9]' "$folder/explained")
 [ "$(wc -l <"$folder/rows")" = 44 ] || complain "$(wc -l <"$folder/rows") captures with directions"
 while IFS=$'\t' read -r file is_taken what; do
     ends 0 "" explain -s $a "$folder/directions/$file"
-    if [ "$is_taken" = taken ]; then prints "$folder/explained" && told=""; else prints /dev/null && told="u: left out $packets outbound packets"; fi
+    if [ "$is_taken" = taken ]; then
+        prints "$folder/explained" && told=""
+    else
+        prints /dev/null && told="u: left out $packets outbound packets"
+    fi
     ends 0 "" check -s $a -u "$folder/directions/$file"
     [ "$(grep "outbound" "$folder/stdout")" = "$told" ] || complain "a check of $what: $(cat "$folder/stdout")"
     # A run that is done says the same behind it.
@@ -469,7 +473,8 @@ for words in "" "--help" "--version" "check --settings $a" "explain --settings $
     # shellcheck disable=SC2086
     ./tep $words >/dev/full 2>"$folder/stderr"
     got=$?
-    [ $got -eq 3 ] && [ "$(head -n 1 "$folder/stderr")" = "write stdout" ] || complain "tep $words on a full device: status $got, '$(cat "$folder/stderr")'"
+    [ $got -eq 3 ] && [ "$(head -n 1 "$folder/stderr")" = "write stdout" ] ||
+        complain "tep $words on a full device: status $got, '$(cat "$folder/stderr")'"
 done
 
 # looks STATUS LINE WORDS..: a look that can't be printed ends so, on a full device and where standard output is closed
@@ -478,10 +483,12 @@ looks() {
     shift 2
     ./tep check "$@" >/dev/full 2>"$folder/stderr"
     got=$?
-    [ $got -eq "$status" ] && [ "$(head -n 1 "$folder/stderr")" = "$line" ] || complain "tep check $* on a full device: status $got, '$(cat "$folder/stderr")'"
+    [ $got -eq "$status" ] && [ "$(head -n 1 "$folder/stderr")" = "$line" ] ||
+        complain "tep check $* on a full device: status $got, '$(cat "$folder/stderr")'"
     ./tep check "$@" >&- 2>"$folder/stderr"
     got=$?
-    [ $got -eq "$status" ] && [ "$(head -n 1 "$folder/stderr")" = "$line" ] || complain "tep check $* without standard output: status $got, '$(cat "$folder/stderr")'"
+    [ $got -eq "$status" ] && [ "$(head -n 1 "$folder/stderr")" = "$line" ] ||
+        complain "tep check $* without standard output: status $got, '$(cat "$folder/stderr")'"
 }
 
 # What is refused is told in front of that it can't be printed, and at the end stands that.

@@ -48,6 +48,14 @@ diff - "$folder/left_out" <<'LEFT' || complain "other records are left out with 
   p2: left out 4 records that the switch sent
   u: left out 7 records that the switch sent
 LEFT
+# Of a cut capture lines and summary tell all ten records that are whole, and not only the six or fewer that came in.
+mkdir "$folder/cut"
+head -c -5 "$captures/both/port1.pcap" >"$folder/cut.pcap"
+./tep run --both --summary --settings "$lab/settings.toml" --out "$folder/cut" --underlay "$captures/both/underlay.pcap" \
+    "$folder/cut.pcap" "$captures/both/port2.pcap" >"$folder/counted" 2>/dev/null || complain "the run on a cut capture ends with $?"
+for told in "$folder/cut/decisions.txt" "$folder/counted"; do
+    grep -qx "cut p1 10" "$told" || complain "of a cut capture $told says '$(grep cut "$told")'"
+done
 # Parts of it are put together to the same.
 for part in 1 2-4094,none; do
     mkdir "$folder/part $part"

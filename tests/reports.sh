@@ -261,7 +261,8 @@ for copies in 1 2; do
             --why "drop:$number" "$folder"/in/port[1-4].pcap >"$folder/stdout" || complain "tep run --why drop:$number: status $?"
         firsts "$number" >"$folder/looked_up"
         [ -s "$folder/looked_up" ] || complain "no event is dropped for $number"
-        grep -v '^  ' "$folder/stdout" | cmp -s - "$folder/looked_up" || complain "--why drop:$number tells: $(grep -v '^  ' "$folder/stdout")"
+        grep -v '^  ' "$folder/stdout" | cmp -s - "$folder/looked_up" ||
+            complain "--why drop:$number tells: $(grep -v '^  ' "$folder/stdout")"
     done
 done
 
@@ -275,7 +276,8 @@ done
     >"$folder/stdout" 2>"$folder/stderr"
 [ $? -eq 1 ] || complain "a run that stops: another status"
 [ "$(cat "$folder/stderr")" = "p1: BadFraction 2
-  $folder/fault.pcap: record 2 is damaged: editcap -F nsecpcap -r $folder/fault.pcap OUT 1-1 keeps those before" ] || complain "a run that stops: $(cat "$folder/stderr")"
+  $folder/fault.pcap: record 2 is damaged: editcap -F nsecpcap -r $folder/fault.pcap OUT 1-1 keeps those before" ] ||
+    complain "a run that stops: $(cat "$folder/stderr")"
 [ "$(tail -n 1 "$folder/stdout")" = "1 1000000000 p1 1 10 192.0.2.2=110" ] || complain "a run that stops tells: $(cat "$folder/stdout")"
 
 # The values of each header; without the option none.

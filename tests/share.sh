@@ -69,7 +69,8 @@ shows() {
     local command
     [ "$(grep -E '^[A-Z][A-Z ]+$' "$1" | tr '\n' ' ')" = "$sections " ] || complain "$1 has other parts: $(grep -E '^[A-Z]' "$1")"
     for command in $commands; do
-        diff <(words_of "$command") <(sed -n "/^   tep $command\$/,/^ \\{0,3\\}[^ ]/p" "$1" | sed -nE 's/^     +(-., )?(--[a-z-]+).*/\2/p') ||
+        diff <(words_of "$command") \
+            <(sed -n "/^   tep $command\$/,/^ \\{0,3\\}[^ ]/p" "$1" | sed -nE 's/^     +(-., )?(--[a-z-]+).*/\2/p') ||
             complain "$1 has other options of tep $command"
     done
     grep -qF 'tep run -s settings.toml -u underlay.pcap -o part1' "$1" || complain "$1 lacks an example"

@@ -47,6 +47,9 @@ rule_for arguments.TablesAt = record (option_rule (codes "tables-at")) { parser 
 rule_for arguments.Why = record (option_rule (codes "why")) { action = Some Append }
 rule_for arguments.Summary = flag_rule (codes "summary")
 rule_for arguments.Talkers = flag_rule (codes "talkers")
+rule_for arguments.Json = flag_rule (codes "json")
+rule_for arguments.RunJson = flag_rule (codes "json")
+rule_for arguments.Quiet = flag_rule (codes "quiet")
 rule_for arguments.Segments = option_rule (codes "segments")
 rule_for arguments.Digests = option_rule (codes "digests")
 rule_for arguments.Both = flag_rule (codes "both")
@@ -60,6 +63,8 @@ rule_for arguments.Depth = record (option_rule (codes "depth")) {
 rule_for arguments.Values = flag_rule (codes "values")
 rule_for arguments.Capture = record (placed_rule (codes "capture")) { required = true }
 rule_for arguments.SplitCapture = record (placed_rule (codes "capture")) { required = true }
+rule_for arguments.RunFolder = record (placed_rule (codes "folder")) { required = true }
+rule_for arguments.Page = record (option_rule (codes "out")) { short = Some 111; required = true }
 rule_for arguments.Compared = record (listed_rule (codes "captures")) { required = true }
 rule_for arguments.Worked = option_rule (codes "worked")
 rule_for arguments.WorkedUnderlay = record (option_rule (codes "underlay")) { short = Some 117 }
@@ -89,26 +94,34 @@ name_of subcommands.Digest = codes "digest"
 name_of subcommands.Merge = codes "merge"
 name_of subcommands.Split = codes "split"
 name_of subcommands.Compare = codes "compare"
+name_of subcommands.Report = codes "report"
 
 -- what it takes
 abbrev pub arguments_of : Subcommand → List Argument
 arguments_of subcommands.Run =
     arguments.Settings ∷ arguments.Changes ∷ arguments.Underlay
     ∷ arguments.RunOut ∷ arguments.Ports ∷ arguments.Both ∷ arguments.Within ∷ arguments.Tables ∷ arguments.TablesAt
-    ∷ arguments.Why ∷ arguments.Summary ∷ arguments.Talkers ∷ arguments.Segments ∷ arguments.Digests ∷ []
+    ∷ arguments.Why ∷ arguments.Summary ∷ arguments.Talkers ∷ arguments.RunJson ∷ arguments.Segments ∷ arguments.Digests
+    ∷ arguments.Quiet ∷ []
 arguments_of subcommands.TellingRun =
     arguments.Settings ∷ arguments.Changes ∷ arguments.Underlay
     ∷ arguments.OptionalOut ∷ arguments.Ports ∷ arguments.Both ∷ arguments.Within ∷ arguments.Tables ∷ arguments.TablesAt
-    ∷ arguments.Why ∷ arguments.Summary ∷ arguments.Talkers ∷ arguments.Segments ∷ arguments.Digests ∷ []
-arguments_of subcommands.Check = arguments.Settings ∷ arguments.Changes ∷ arguments.SeenUnderlay ∷ arguments.SeenPorts ∷ []
-arguments_of subcommands.Explain = arguments.Settings ∷ arguments.Depth ∷ arguments.Values ∷ arguments.Capture ∷ []
+    ∷ arguments.Why ∷ arguments.Summary ∷ arguments.Talkers ∷ arguments.RunJson ∷ arguments.Segments ∷ arguments.Digests
+    ∷ arguments.Quiet ∷ []
+arguments_of subcommands.Check =
+    arguments.Settings ∷ arguments.Changes ∷ arguments.SeenUnderlay ∷ arguments.SeenPorts
+    ∷ arguments.Json ∷ []
+arguments_of subcommands.Explain =
+    arguments.Settings ∷ arguments.Depth ∷ arguments.Values ∷ arguments.Capture ∷ arguments.Json ∷ []
 arguments_of subcommands.Migrate = arguments.Settings ∷ []
 arguments_of subcommands.Digest = arguments.Underlay ∷ arguments.Ports ∷ []
-arguments_of subcommands.Merge = arguments.Out ∷ arguments.Parts ∷ arguments.Tables ∷ arguments.Summary ∷ []
+arguments_of subcommands.Merge =
+    arguments.Out ∷ arguments.Parts ∷ arguments.Tables ∷ arguments.Summary ∷ arguments.Json ∷ []
 arguments_of subcommands.Split = arguments.Out ∷ arguments.SplitCapture ∷ []
 arguments_of subcommands.Compare =
     arguments.Compared ∷ arguments.Worked ∷ arguments.WorkedUnderlay ∷ arguments.WorkedSettings ∷ arguments.Strict
-    ∷ arguments.Later ∷ arguments.Shift ∷ arguments.Lists ∷ arguments.By ∷ arguments.Ignore ∷ []
+    ∷ arguments.Later ∷ arguments.Shift ∷ arguments.Lists ∷ arguments.By ∷ arguments.Ignore ∷ arguments.Json ∷ []
+arguments_of subcommands.Report = arguments.Page ∷ arguments.RunFolder ∷ []
 
 -- what `clap` keeps of it
 abbrev pub shape_for : Subcommand → Shape
@@ -130,7 +143,8 @@ abbrev pub tep_app : App
 tep_app =
     with_commands versioned_app
     (subcommands.Run ∷ subcommands.Check ∷ subcommands.Explain
-    ∷ subcommands.Migrate ∷ subcommands.Digest ∷ subcommands.Merge ∷ subcommands.Split ∷ subcommands.Compare ∷ [])
+    ∷ subcommands.Migrate ∷ subcommands.Digest ∷ subcommands.Merge ∷ subcommands.Split ∷ subcommands.Compare
+    ∷ subcommands.Report ∷ [])
 
 -- the program with the run alone that may leave its folder out
 abbrev pub telling_app : App

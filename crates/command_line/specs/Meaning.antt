@@ -19,60 +19,65 @@ use Rattle.command_line.specs.declared.line.LineFault.TheVariants as fault
 
 -- a command with its values: of `run` the settings, the changes, the underlay, the folder if there is one, the ports, whether
 -- the tables are told, the moment at which they are, the events that are told in full, whether the counts are told, the
--- segments that a part takes, the file of the digests that are lent to it, whether what the switch itself sent is left out, and
--- how long behind its frame that may come; of `check` the settings, the changes, the underlay and the ports;
--- of `explain` the settings, the depth, whether values are told, and the capture; of `migrate` the settings; of `digest` the
--- underlay and the ports; of `merge` the folder, those of the parts, whether the tables are told, and whether the counts are; of
--- `split` the folder and the capture; of `compare` what was sent, what was received, how much later a record may be, and how far
--- the clock of what was received is ahead, whether what is alone is listed, what a table is by, and what is left aside; of the
+-- segments that a part takes, the file of the digests that are lent to it, whether what the switch itself sent is left out, how
+-- long behind its frame that may come, whether all is told as JSON, too, and whether no progress is shown; of `check` the settings,
+-- the changes, the underlay, the ports, and whether it is told as JSON; of `explain` the settings, the depth, whether values are
+-- told, the capture, and the same; of `migrate` the settings; of `digest` the underlay and the ports; of `merge` the folder, those
+-- of the parts, whether the tables are told, whether the counts are, and whether they are told as JSON; of `split` the folder and
+-- the capture; of `report` the folder that a run wrote into and the page; of `compare` what was sent, what was received, how much later a record may be, and how far the clock of what was
+-- received is ahead, whether what is alone is listed, what a table is by, what is left aside, and whether it is told as JSON; of the
 -- other `compare` the folder that a run wrote into, what was captured at the underlay and at the ports, the same two, the settings
--- if there are some, whether all octets are compared at the underlay, and the last three
+-- if there are some, whether all octets are compared at the underlay, and the last four
 pub data Meaning : Type 0 where
   sample : Meaning
   run : Text → Option Text → Text → Option Text → List Text → Bool
-      → Option ℕ → List Text → Bool → Bool → Option Text → Option Text → Bool → Option Text → Meaning
-  check : Text → Option Text → Option Text → List Text → Meaning
-  explain : Text → ℕ → Bool → Text → Meaning
+      → Option ℕ → List Text → Bool → Bool → Option Text → Option Text → Bool → Option Text → Bool → Bool → Meaning
+  check : Text → Option Text → Option Text → List Text → Bool → Meaning
+  explain : Text → ℕ → Bool → Text → Bool → Meaning
   migrate : Text → Meaning
   digest : Text → List Text → Meaning
-  merge : Text → List Text → Bool → Bool → Meaning
+  merge : Text → List Text → Bool → Bool → Bool → Meaning
   split : Text → Text → Meaning
-  compare : Text → Text → Option Text → Option Text → Bool → Option Text → Bool → Meaning
-  compare_worked : Text → Text → List Text → Option Text → Option Text → Option Text → Bool → Bool → Option Text → Bool → Meaning
+  report : Text → Text → Meaning
+  compare : Text → Text → Option Text → Option Text → Bool → Option Text → Bool → Bool → Meaning
+  compare_worked : Text → Text → List Text → Option Text → Option Text → Option Text → Bool → Bool → Option Text → Bool → Bool
+      → Meaning
 
 -- what a command line is as such a meaning
 abbrev pub meaning_of : Line → Meaning
 meaning_of line.Sample = sample
-meaning_of (line.Run settings changes underlay out ports tables tables_at why summary talkers segments digests both within) =
+meaning_of (line.Run settings changes underlay out ports tables tables_at why summary talkers segments digests both within json quiet) =
     run settings.now (option_map (λ t. t.now) changes) underlay.now (option_map (λ t. t.now) out) (texts ports.items) tables tables_at
     (texts why.items) summary talkers (option_map (λ t. t.now) segments) (option_map (λ t. t.now) digests)
-    both (option_map (λ t. t.now) within)
-meaning_of (line.Check settings changes underlay ports) =
-    check settings.now (option_map (λ t. t.now) changes) (option_map (λ t. t.now) underlay) (texts ports.items)
-meaning_of (line.Explain settings depth values capture) = explain settings.now depth values capture.now
+    both (option_map (λ t. t.now) within) json quiet
+meaning_of (line.Check settings changes underlay ports json) =
+    check settings.now (option_map (λ t. t.now) changes) (option_map (λ t. t.now) underlay) (texts ports.items) json
+meaning_of (line.Explain settings depth values capture json) = explain settings.now depth values capture.now json
 meaning_of (line.Migrate settings) = migrate settings.now
 meaning_of (line.Digest underlay ports) = digest underlay.now (texts ports.items)
-meaning_of (line.Merge out parts tables summary) = merge out.now (texts parts.items) tables summary
+meaning_of (line.Merge out parts tables summary json) = merge out.now (texts parts.items) tables summary json
 meaning_of (line.Split out capture) = split out.now capture.now
-meaning_of (line.Compare sent received within shift lists by ignores) =
+meaning_of (line.Report folder page) = report folder.now page.now
+meaning_of (line.Compare sent received within shift lists by ignores json) =
     compare sent.now received.now (option_map (λ t. t.now) within) (option_map (λ t. t.now) shift) lists
-    (option_map (λ t. t.now) by) ignores
-meaning_of (line.CompareWorked worked underlay ports within shift settings strict lists by ignores) =
+    (option_map (λ t. t.now) by) ignores json
+meaning_of (line.CompareWorked worked underlay ports within shift settings strict lists by ignores json) =
     compare_worked worked.now underlay.now (texts ports.items) (option_map (λ t. t.now) within) (option_map (λ t. t.now) shift)
-    (option_map (λ t. t.now) settings) strict lists (option_map (λ t. t.now) by) ignores
+    (option_map (λ t. t.now) settings) strict lists (option_map (λ t. t.now) by) ignores json
 
 -- a depth is 1 to 4
 abbrev pub HasDepth : Line → Type 0
 HasDepth line.Sample = ⊤
-HasDepth (line.Run settings changes underlay out ports tables tables_at why summary talkers segments digests both within) = ⊤
-HasDepth (line.Check settings changes underlay ports) = ⊤
-HasDepth (line.Explain settings depth values capture) = (1 ≤ depth) × (depth ≤ 4)
+HasDepth (line.Run settings changes underlay out ports tables tables_at why summary talkers segments digests both within json quiet) = ⊤
+HasDepth (line.Check settings changes underlay ports json) = ⊤
+HasDepth (line.Explain settings depth values capture json) = (1 ≤ depth) × (depth ≤ 4)
 HasDepth (line.Migrate settings) = ⊤
 HasDepth (line.Digest underlay ports) = ⊤
-HasDepth (line.Merge out parts tables summary) = ⊤
+HasDepth (line.Merge out parts tables summary json) = ⊤
 HasDepth (line.Split out capture) = ⊤
-HasDepth (line.Compare sent received within shift lists by ignores) = ⊤
-HasDepth (line.CompareWorked worked underlay ports within shift settings strict lists by ignores) = ⊤
+HasDepth (line.Report folder page) = ⊤
+HasDepth (line.Compare sent received within shift lists by ignores json) = ⊤
+HasDepth (line.CompareWorked worked underlay ports within shift settings strict lists by ignores json) = ⊤
 
 -- ---- what matches mean: nothing, where a required value is missing
 
@@ -126,17 +131,19 @@ abbrev pub run_meant : List Row → Option Meaning
 run_meant rows = option_and_then (λ s. option_and_then (λ u.
     option_map (λ ps. run s (changes_in rows) u (first_of (codes "out") rows) ps (is_set (codes "tables") rows) (moment_in rows)
     (why_in rows) (is_set (codes "summary") rows) (is_set (codes "talkers") rows) (first_of (codes "segments") rows)
-    (first_of (codes "digests") rows) (is_set (codes "both") rows) (first_of (codes "within") rows)) (all_of (codes "ports") rows))
-    (first_of (codes "underlay") rows)) (settings_in rows)
+    (first_of (codes "digests") rows) (is_set (codes "both") rows) (first_of (codes "within") rows) (is_set (codes "json") rows)
+    (is_set (codes "quiet") rows)) (all_of (codes "ports") rows)) (first_of (codes "underlay") rows)) (settings_in rows)
 
 -- what `check` is asked to do
 abbrev pub check_meant : List Row → Option Meaning
-check_meant rows = option_map (λ s. check s (changes_in rows) (first_of (codes "underlay") rows) (seen_ports rows)) (settings_in rows)
+check_meant rows =
+    option_map (λ s. check s (changes_in rows) (first_of (codes "underlay") rows) (seen_ports rows) (is_set (codes "json") rows))
+    (settings_in rows)
 
 -- what `explain` is asked to do
 abbrev pub explain_meant : List Row → Option Meaning
-explain_meant rows = option_and_then (λ s. option_and_then (λ c. option_map (λ d. explain s d (is_set (codes "values") rows) c)
-    (depth_in rows)) (first_of (codes "capture") rows)) (settings_in rows)
+explain_meant rows = option_and_then (λ s. option_and_then (λ c. option_map (λ d. explain s d (is_set (codes "values") rows) c
+    (is_set (codes "json") rows)) (depth_in rows)) (first_of (codes "capture") rows)) (settings_in rows)
 
 -- what `migrate` is asked to do
 abbrev pub migrate_meant : List Row → Option Meaning
@@ -149,13 +156,18 @@ digest_meant rows = option_and_then (λ u. option_map (λ ps. digest u ps) (all_
 -- what `merge` is asked to do
 abbrev pub merge_meant : List Row → Option Meaning
 merge_meant rows =
-    option_and_then (λ o. option_map (λ ps. merge o ps (is_set (codes "tables") rows) (is_set (codes "summary") rows))
-    (all_of (codes "parts") rows)) (first_of (codes "out") rows)
+    option_and_then (λ o. option_map (λ ps. merge o ps (is_set (codes "tables") rows) (is_set (codes "summary") rows)
+    (is_set (codes "json") rows)) (all_of (codes "parts") rows)) (first_of (codes "out") rows)
 
 -- what `split` is asked to do
 abbrev pub split_meant : List Row → Option Meaning
 split_meant rows =
     option_and_then (λ o. option_map (λ c. split o c) (first_of (codes "capture") rows)) (first_of (codes "out") rows)
+
+-- what `report` is asked to do
+abbrev pub report_meant : List Row → Option Meaning
+report_meant rows =
+    option_and_then (λ f. option_map (λ p. report f p) (first_of (codes "out") rows)) (first_of (codes "folder") rows)
 
 -- whether frames to the addresses that no bridge forwards are left aside: by a list of words, which can only be `reserved`
 abbrev pub ignores_by : Option Text → Option Bool
@@ -166,36 +178,37 @@ abbrev pub ignores_in : List Row → Option Bool
 ignores_in rows = ignores_by (first_of (codes "ignore") rows)
 
 -- what `compare` is asked to do with two captures, and with no others
-abbrev pub pair_meant : List Text → Option Text → Option Text → Bool → Option Text → Bool → Option Meaning
-pair_meant [] within shift lists by ignores = None
-pair_meant (sent ∷ []) within shift lists by ignores = None
-pair_meant (sent ∷ received ∷ []) within shift lists by ignores = Some (compare sent received within shift lists by ignores)
-pair_meant (sent ∷ received ∷ another ∷ more) within shift lists by ignores = None
+abbrev pub pair_meant : List Text → Option Text → Option Text → Bool → Option Text → Bool → Bool → Option Meaning
+pair_meant [] within shift lists by ignores json = None
+pair_meant (sent ∷ []) within shift lists by ignores json = None
+pair_meant (sent ∷ received ∷ []) within shift lists by ignores json = Some (compare sent received within shift lists by ignores json)
+pair_meant (sent ∷ received ∷ another ∷ more) within shift lists by ignores json = None
 
 -- and neither with settings nor strictly
-abbrev pub plain_pair_meant : Option Text → Bool → List Text → Option Text → Option Text → Bool → Option Text → Bool
+abbrev pub plain_pair_meant : Option Text → Bool → List Text → Option Text → Option Text → Bool → Option Text → Bool → Bool
     → Option Meaning
-plain_pair_meant None false captures within shift lists by ignores = pair_meant captures within shift lists by ignores
-plain_pair_meant None true captures within shift lists by ignores = None
-plain_pair_meant (Some settings) strict captures within shift lists by ignores = None
+plain_pair_meant None false captures within shift lists by ignores json = pair_meant captures within shift lists by ignores json
+plain_pair_meant None true captures within shift lists by ignores json = None
+plain_pair_meant (Some settings) strict captures within shift lists by ignores json = None
 
 -- by the folder of a run and what was captured at the underlay: with both of them each capture is one of a port, with neither
 -- there are two
 abbrev pub captures_meant : Option Text → Option Text → List Text → Option Text → Option Text → Option Text → Bool → Bool
-    → Option Text → Bool → Option Meaning
-captures_meant None None captures within shift settings strict lists by ignores =
-    plain_pair_meant settings strict captures within shift lists by ignores
-captures_meant None (Some underlay) captures within shift settings strict lists by ignores = None
-captures_meant (Some worked) None captures within shift settings strict lists by ignores = None
-captures_meant (Some worked) (Some underlay) captures within shift settings strict lists by ignores =
-    Some (compare_worked worked underlay captures within shift settings strict lists by ignores)
+    → Option Text → Bool → Bool → Option Meaning
+captures_meant None None captures within shift settings strict lists by ignores json =
+    plain_pair_meant settings strict captures within shift lists by ignores json
+captures_meant None (Some underlay) captures within shift settings strict lists by ignores json = None
+captures_meant (Some worked) None captures within shift settings strict lists by ignores json = None
+captures_meant (Some worked) (Some underlay) captures within shift settings strict lists by ignores json =
+    Some (compare_worked worked underlay captures within shift settings strict lists by ignores json)
 
 -- what `compare` is asked to do
 abbrev pub compare_meant : List Row → Option Meaning
 compare_meant rows =
     option_and_then (λ captures. option_and_then (λ ignores. captures_meant (first_of (codes "worked") rows)
     (first_of (codes "underlay") rows) captures (first_of (codes "within") rows) (first_of (codes "shift") rows) (settings_in rows)
-    (is_set (codes "strict") rows) (is_set (codes "list") rows) (first_of (codes "by") rows) ignores) (ignores_in rows))
+    (is_set (codes "strict") rows) (is_set (codes "list") rows) (first_of (codes "by") rows) ignores
+    (is_set (codes "json") rows)) (ignores_in rows))
     (all_of (codes "captures") rows)
 
 -- what a subcommand of this name is asked to do
@@ -208,7 +221,8 @@ command_meant name rows =
     else (if bytes_eq name (codes "digest") then digest_meant rows
     else (if bytes_eq name (codes "merge") then merge_meant rows
     else (if bytes_eq name (codes "split") then split_meant rows
-    else (if bytes_eq name (codes "compare") then compare_meant rows else None)))))))
+    else (if bytes_eq name (codes "compare") then compare_meant rows
+    else (if bytes_eq name (codes "report") then report_meant rows else None))))))))
 
 -- what a parse means that met this subcommand with these matches, or none
 abbrev pub line_meant : Option (Text × List Row) → Option Meaning
@@ -233,7 +247,7 @@ has_any (t ∷ ts) = true
 
 -- something is told of a run besides its outputs
 abbrev pub is_telling : Meaning → Bool
-is_telling (run settings changes underlay out ports tables tables_at why summary talkers segments digests both within) =
+is_telling (run settings changes underlay out ports tables tables_at why summary talkers segments digests both within json quiet) =
     tables || (is_some tables_at || (has_any why || (summary || talkers)))
 is_telling _ = false
 
@@ -262,17 +276,18 @@ inputs_among names = count_by (λ name. bytes_eq (file_of name) (codes "-")) nam
 -- how many captures are standard input; texts are files, whatever their names, and beside what a run wrote '-' is no capture
 abbrev pub input_uses : Meaning → ℕ
 input_uses sample = 0
-input_uses (run settings changes underlay out ports tables tables_at why summary talkers segments digests both within) =
+input_uses (run settings changes underlay out ports tables tables_at why summary talkers segments digests both within json quiet) =
     inputs_among (underlay ∷ ports)
-input_uses (check settings changes None ports) = inputs_among ports
-input_uses (check settings changes (Some underlay) ports) = inputs_among (underlay ∷ ports)
-input_uses (explain settings depth values capture) = inputs_among (capture ∷ [])
+input_uses (check settings changes None ports json) = inputs_among ports
+input_uses (check settings changes (Some underlay) ports json) = inputs_among (underlay ∷ ports)
+input_uses (explain settings depth values capture json) = inputs_among (capture ∷ [])
 input_uses (migrate settings) = 0
 input_uses (digest underlay ports) = inputs_among (underlay ∷ ports)
-input_uses (merge out parts tables summary) = 0
+input_uses (merge out parts tables summary json) = 0
 input_uses (split out capture) = inputs_among (capture ∷ [])
-input_uses (compare sent received within shift lists by ignores) = inputs_among (sent ∷ received ∷ [])
-input_uses (compare_worked worked underlay ports within shift settings strict lists by ignores) = 0
+input_uses (report folder page) = 0
+input_uses (compare sent received within shift lists by ignores json) = inputs_among (sent ∷ received ∷ [])
+input_uses (compare_worked worked underlay ports within shift settings strict lists by ignores json) = 0
 
 -- it is read once at most
 abbrev pub ReadsInputOnce : Meaning → Type 0
@@ -282,7 +297,7 @@ ReadsInputOnce meaning = input_uses meaning ≤ 1
 
 -- digests are lent to a run that is no part
 abbrev pub lends_to_a_whole : Meaning → Bool
-lends_to_a_whole (run settings changes underlay out ports tables tables_at why summary talkers segments digests both within) =
+lends_to_a_whole (run settings changes underlay out ports tables tables_at why summary talkers segments digests both within json quiet) =
     is_some digests && not (is_some segments)
 lends_to_a_whole _ = false
 
@@ -299,7 +314,7 @@ are_no_captures (name ∷ names) = bytes_eq name (codes "-") && are_no_captures 
 
 -- what a run wrote is compared with no capture at all
 abbrev pub compares_nothing : Meaning → Bool
-compares_nothing (compare_worked worked underlay ports within shift settings strict lists by ignores) = are_no_captures (underlay ∷ ports)
+compares_nothing (compare_worked worked underlay ports within shift settings strict lists by ignores json) = are_no_captures (underlay ∷ ports)
 compares_nothing _ = false
 
 -- there is something to compare where captures are compared

@@ -44,6 +44,12 @@ pub enum Argument {
     Summary,
     /// Whether it is told who sent to whom.
     Talkers,
+    /// Whether what is printed is told as JSON.
+    Json,
+    /// Whether the decision lines are told as JSON, too.
+    RunJson,
+    /// Whether no progress is shown.
+    Quiet,
     /// The segments that a part of a run takes.
     Segments,
     /// The digests that are lent to a part of a run.
@@ -62,6 +68,10 @@ pub enum Argument {
     Capture,
     /// The capture that is split.
     SplitCapture,
+    /// The folder that a run wrote into, of which a page is made.
+    RunFolder,
+    /// The page that is made of it.
+    Page,
     /// The captures that are compared: two, or beside what a run wrote one of each port.
     Compared,
     /// The folder that a run wrote into, where that is compared.
@@ -168,6 +178,17 @@ impl Argument {
                 "talkers",
                 "Prints who sent to whom in each segment, by address and place",
             ),
+            Argument::Json => flag(alloc, "json", "Prints it as JSON, one object a line"),
+            Argument::RunJson => flag(
+                alloc,
+                "json",
+                "Writes decisions.jsonl, too, and prints what is printed as JSON: one object a line",
+            ),
+            Argument::Quiet => flag(
+                alloc,
+                "quiet",
+                "Shows no progress where standard error is a terminal",
+            ),
             Argument::Segments => option(
                 alloc,
                 "segments",
@@ -221,6 +242,21 @@ impl Argument {
                 FILE,
                 "A pcapng capture of several interfaces; '-' is standard input",
             )
+            .required(true),
+            Argument::RunFolder => placed(
+                alloc,
+                "folder",
+                DIR,
+                "The folder that 'tep run' or 'tep merge' wrote into",
+            )
+            .required(true),
+            Argument::Page => option(
+                alloc,
+                "out",
+                FILE,
+                "The page that is written: one file of HTML",
+            )
+            .short('o')
             .required(true),
             Argument::Compared => listed(
                 alloc,

@@ -19,7 +19,14 @@ const EXAMPLE: &str =
 
 /// What stands below the help of `run`.
 const RUN_EXAMPLE: &str =
-    "Captures are pcap or pcapng. FILE#INTERFACE takes one interface of a pcapng capture, by number or name.\n\nExamples:\n  tep run -s settings.toml -c changes.toml -u underlay.pcap -o out port1.pcap port2.pcap\n  tep run -s settings.toml -u underlay.pcap -o out --why 7 --why p2:1 --tables port1.pcap port2.pcap\n  tep run -s settings.toml -u underlay.pcap --why drop:any port1.pcap port2.pcap\n  tep run -s settings.toml -u all.pcapng#eth0 -o out all.pcapng#eth1 all.pcapng#eth2\n  tep run -s settings.toml -u underlay.pcap -o part1 --segments 1-10,none port1.pcap port2.pcap\n  cat out/decisions.txt";
+    "Captures are pcap or pcapng. FILE#INTERFACE takes one interface of a pcapng capture, by number or name.\n\n\
+    Examples:\n  \
+    tep run -s settings.toml -c changes.toml -u underlay.pcap -o out port1.pcap port2.pcap\n  \
+    tep run -s settings.toml -u underlay.pcap -o out --why 7 --why p2:1 --tables port1.pcap port2.pcap\n  \
+    tep run -s settings.toml -u underlay.pcap --why drop:any port1.pcap port2.pcap\n  \
+    tep run -s settings.toml -u all.pcapng#eth0 -o out all.pcapng#eth1 all.pcapng#eth2\n  \
+    tep run -s settings.toml -u underlay.pcap -o part1 --segments 1-10,none port1.pcap port2.pcap\n  \
+    cat out/decisions.txt";
 
 /// What stands below the help of `check`.
 const CHECK_EXAMPLE: &str =
@@ -27,29 +34,59 @@ const CHECK_EXAMPLE: &str =
 
 /// What stands below the help of `explain`.
 const EXPLAIN_EXAMPLE: &str =
-    "A capture is pcap or pcapng. FILE#INTERFACE takes one interface of a pcapng capture, by number or name.\n\nExamples:\n  tep explain -s settings.toml -d 2 underlay.pcap\n  tep explain -s settings.toml --values underlay.pcap\n  tep explain -s settings.toml all.pcapng#eth0";
+    "A capture is pcap or pcapng. FILE#INTERFACE takes one interface of a pcapng capture, by number or name.\n\n\
+    Examples:\n  \
+    tep explain -s settings.toml -d 2 underlay.pcap\n  \
+    tep explain -s settings.toml --values underlay.pcap\n  \
+    tep explain -s settings.toml all.pcapng#eth0";
 
 /// What stands below the help of `migrate`.
 const MIGRATE_EXAMPLE: &str = "Example:\n  tep migrate -s settings.toml >migrated.toml";
 
 /// What stands below the help of `digest`.
 const DIGEST_EXAMPLE: &str =
-    "Captures are pcap or pcapng. FILE#INTERFACE takes one interface of a pcapng capture, by number or name.\n\nExample:\n  tep digest -u underlay.pcap port1.pcap port2.pcap >digests.txt\n  tep run -s settings.toml -u underlay.pcap -o part1 --segments 1-10,none --digests digests.txt port1.pcap port2.pcap";
+    "Captures are pcap or pcapng. FILE#INTERFACE takes one interface of a pcapng capture, by number or name.\n\n\
+    Example:\n  \
+    tep digest -u underlay.pcap port1.pcap port2.pcap >digests.txt\n  \
+    tep run -s settings.toml -u underlay.pcap -o part1 --segments 1-10,none --digests digests.txt port1.pcap port2.pcap";
 
 /// What stands below the help of `merge`.
 const MERGE_EXAMPLE: &str =
-    "The parts are those of one run, and all of it. The folder is left what the whole run writes.\nTables and counts are printed as the whole run prints them, where each part was run with the same word.\n\nExamples:\n  tep merge -o whole part1 part2 part3\n  tep merge -o whole --summary part1 part2 part3";
+    "The parts are those of one run, and all of it. The folder is left what the whole run writes.\n\
+    Tables and counts are printed as the whole run prints them, where each part was run with the same word.\n\n\
+    Examples:\n  \
+    tep merge -o whole part1 part2 part3\n  \
+    tep merge -o whole --summary part1 part2 part3";
 
 /// What stands below the help of `split`.
 const SPLIT_EXAMPLE: &str =
-    "The file is read once. Each interface's packets, those that FILE#NUMBER takes, are written into ifNUMBER_NAME.pcap,\nand a list is printed: the interface's number, the file, and the interface's name.\n\nExample:\n  tep split -o ports all.pcapng\n  tep run -s settings.toml -u ports/if0_eth0.pcap -o out ports/if1_swp1.pcap ports/if2_swp2.pcap";
+    "The file is read once. Each interface's packets, those that FILE#NUMBER takes, are written into ifNUMBER_NAME.pcap,\n\
+    and a list is printed: the interface's number, the file, and the interface's name.\n\n\
+    Example:\n  \
+    tep split -o ports all.pcapng\n  \
+    tep run -s settings.toml -u ports/if0_eth0.pcap -o out ports/if1_swp1.pcap ports/if2_swp2.pcap";
 
 /// What stands below the help of `compare`.
 const COMPARE_EXAMPLE: &str =
-    "Captures are pcap or pcapng. FILE#INTERFACE takes one interface of a pcapng capture, by number or name.\nWith --worked packets of tunnels are the same where what they carry and their addresses are.\nThe exit status is 0 where all is the same, and 1 where it isn't.\n\nExamples:\n  tep compare sent.pcap received.pcap\n  tep compare --within 5ms --shift=-1200ns out/port2.pcap switch.pcapng#eth2\n  tep compare --worked out -u seen_u.pcap seen_1.pcap -\n  tep compare --worked out -s settings.toml -u seen_u.pcap seen_1.pcap seen_2.pcap";
+    "Captures are pcap or pcapng. FILE#INTERFACE takes one interface of a pcapng capture, by number or name.\n\
+    With --worked packets of tunnels are the same where what they carry and their addresses are.\n\
+    The exit status is 0 where all is the same, and 1 where it isn't.\n\n\
+    Examples:\n  \
+    tep compare sent.pcap received.pcap\n  \
+    tep compare --within 5ms --shift=-1200ns out/port2.pcap switch.pcapng#eth2\n  \
+    tep compare --worked out -u seen_u.pcap seen_1.pcap -\n  \
+    tep compare --worked out -s settings.toml -u seen_u.pcap seen_1.pcap seen_2.pcap";
+
+/// What stands below the help of `report`.
+const REPORT_EXAMPLE: &str =
+    "The page tells what came and left over time, what was dropped and why, and who talked to whom. Where the folder has\n\
+    summary.txt, what --summary, --tables and --talkers printed, it tells of that, too.\n\n\
+    Example:\n  \
+    tep run -s settings.toml -u underlay.pcap -o out --summary --tables --talkers port1.pcap port2.pcap >out/summary.txt\n  \
+    tep report -o page.html out";
 
 /// What `compare` takes.
-const COMPARE: [Argument; 10] = [
+const COMPARE: [Argument; 11] = [
     Argument::Compared,
     Argument::Worked,
     Argument::WorkedUnderlay,
@@ -60,6 +97,7 @@ const COMPARE: [Argument; 10] = [
     Argument::Lists,
     Argument::By,
     Argument::Ignore,
+    Argument::Json,
 ];
 
 /// A command of the program.
@@ -83,10 +121,12 @@ pub enum Subcommand {
     Split,
     /// Compares what was sent with what was received.
     Compare,
+    /// Makes a page of what a run gave.
+    Report,
 }
 
 /// All of them, in the order of the program's help.
-const SUBCOMMANDS: [Subcommand; 8] = [
+const SUBCOMMANDS: [Subcommand; 9] = [
     Subcommand::Run,
     Subcommand::Check,
     Subcommand::Explain,
@@ -95,10 +135,11 @@ const SUBCOMMANDS: [Subcommand; 8] = [
     Subcommand::Merge,
     Subcommand::Split,
     Subcommand::Compare,
+    Subcommand::Report,
 ];
 
 /// What `run` takes.
-const RUN: [Argument; 14] = [
+const RUN: [Argument; 16] = [
     Argument::Settings,
     Argument::Changes,
     Argument::Underlay,
@@ -111,12 +152,14 @@ const RUN: [Argument; 14] = [
     Argument::Why,
     Argument::Summary,
     Argument::Talkers,
+    Argument::RunJson,
     Argument::Segments,
     Argument::Digests,
+    Argument::Quiet,
 ];
 
 /// What `run` takes where its folder may be left out.
-const TELLING_RUN: [Argument; 14] = [
+const TELLING_RUN: [Argument; 16] = [
     Argument::Settings,
     Argument::Changes,
     Argument::Underlay,
@@ -129,32 +172,37 @@ const TELLING_RUN: [Argument; 14] = [
     Argument::Why,
     Argument::Summary,
     Argument::Talkers,
+    Argument::RunJson,
     Argument::Segments,
     Argument::Digests,
+    Argument::Quiet,
 ];
 
 /// What `check` takes.
-const CHECK: [Argument; 4] = [
+const CHECK: [Argument; 5] = [
     Argument::Settings,
     Argument::Changes,
     Argument::SeenUnderlay,
     Argument::SeenPorts,
+    Argument::Json,
 ];
 
 /// What `explain` takes.
-const EXPLAIN: [Argument; 4] = [
+const EXPLAIN: [Argument; 5] = [
     Argument::Settings,
     Argument::Depth,
     Argument::Values,
     Argument::Capture,
+    Argument::Json,
 ];
 
 /// What `merge` takes.
-const MERGE: [Argument; 4] = [
+const MERGE: [Argument; 5] = [
     Argument::Out,
     Argument::Parts,
     Argument::Tables,
     Argument::Summary,
+    Argument::Json,
 ];
 
 impl Subcommand {
@@ -171,6 +219,7 @@ impl Subcommand {
             Subcommand::Merge => "merge",
             Subcommand::Split => "split",
             Subcommand::Compare => "compare",
+            Subcommand::Report => "report",
         }
     }
 
@@ -202,6 +251,10 @@ impl Subcommand {
                 "Tells which records that were sent were received",
                 COMPARE_EXAMPLE,
             ),
+            Subcommand::Report => (
+                "Makes a page of what a run gave, to look at",
+                REPORT_EXAMPLE,
+            ),
         }
     }
 
@@ -219,6 +272,7 @@ impl Subcommand {
             Subcommand::Merge => &MERGE,
             Subcommand::Split => &[Argument::Out, Argument::SplitCapture],
             Subcommand::Compare => &COMPARE,
+            Subcommand::Report => &[Argument::Page, Argument::RunFolder],
         }
     }
 

@@ -29,6 +29,8 @@ pub(crate) struct Comparing<'a> {
     pub(crate) by: Option<&'a str>,
     /// Whether frames to the addresses that no bridge forwards are left aside.
     pub(crate) ignores: bool,
+    /// Whether it is told as JSON.
+    pub(crate) json: bool,
 }
 
 /// The line that asks for this comparison of these captures.
@@ -41,13 +43,13 @@ pub(crate) fn comparison_line<'a>(
         (option_map (λ t. t.now) asked.entry.underlay) (texts captures.now)
         (option_map (λ t. t.now) asked.entry.within) (option_map (λ t. t.now) asked.entry.shift)
         (option_map (λ t. t.now) asked.entry.settings) asked.entry.strict asked.entry.lists
-        (option_map (λ t. t.now) asked.entry.by) asked.entry.ignores ≡ Some (meaning_of line)) }
+        (option_map (λ t. t.now) asked.entry.by) asked.entry.ignores asked.entry.json ≡ Some (meaning_of line)) }
     ensures depth { IfOk result HasDepth }
     ensures fault { IfErr result (LacksValue
         (captures_meant (option_map (λ t. t.now) asked.entry.worked) (option_map (λ t. t.now) asked.entry.underlay)
         (texts captures.now) (option_map (λ t. t.now) asked.entry.within) (option_map (λ t. t.now) asked.entry.shift)
         (option_map (λ t. t.now) asked.entry.settings) asked.entry.strict asked.entry.lists
-        (option_map (λ t. t.now) asked.entry.by) asked.entry.ignores)) }
+        (option_map (λ t. t.now) asked.entry.by) asked.entry.ignores asked.entry.json)) }
 {
     match (asked.worked, asked.underlay) {
         (None, None) => plain_pair(asked, captures),
@@ -63,6 +65,7 @@ pub(crate) fn comparison_line<'a>(
                 lists: asked.lists,
                 by: asked.by,
                 ignores: asked.ignores,
+                json: asked.json,
             }),
             Err(_) => Err(LineFault::OutOfMemory),
         },
@@ -74,12 +77,12 @@ pub(crate) fn comparison_line<'a>(
 fn plain_pair<'a>(asked: Comparing<'a>, captures: &[&'a str]) -> Result<Line<'a>, LineFault>
     ensures ok { IfOk result (λ line. plain_pair_meant (option_map (λ t. t.now) asked.entry.settings) asked.entry.strict
         (texts captures.now) (option_map (λ t. t.now) asked.entry.within) (option_map (λ t. t.now) asked.entry.shift)
-        asked.entry.lists (option_map (λ t. t.now) asked.entry.by) asked.entry.ignores ≡ Some (meaning_of line)) }
+        asked.entry.lists (option_map (λ t. t.now) asked.entry.by) asked.entry.ignores asked.entry.json ≡ Some (meaning_of line)) }
     ensures depth { IfOk result HasDepth }
     ensures fault { IfErr result (LacksValue
         (plain_pair_meant (option_map (λ t. t.now) asked.entry.settings) asked.entry.strict (texts captures.now)
         (option_map (λ t. t.now) asked.entry.within) (option_map (λ t. t.now) asked.entry.shift) asked.entry.lists
-        (option_map (λ t. t.now) asked.entry.by) asked.entry.ignores)) }
+        (option_map (λ t. t.now) asked.entry.by) asked.entry.ignores asked.entry.json)) }
 {
     match (asked.settings, asked.strict) {
         (None, false) => pair(asked, captures),
@@ -90,11 +93,11 @@ fn plain_pair<'a>(asked: Comparing<'a>, captures: &[&'a str]) -> Result<Line<'a>
 /// The line that asks for two captures to be compared.
 fn pair<'a>(asked: Comparing<'a>, captures: &[&'a str]) -> Result<Line<'a>, LineFault>
     ensures ok { IfOk result (λ line. pair_meant (texts captures.now) (option_map (λ t. t.now) asked.entry.within)
-        (option_map (λ t. t.now) asked.entry.shift) asked.entry.lists (option_map (λ t. t.now) asked.entry.by) asked.entry.ignores
+        (option_map (λ t. t.now) asked.entry.shift) asked.entry.lists (option_map (λ t. t.now) asked.entry.by) asked.entry.ignores asked.entry.json
         ≡ Some (meaning_of line)) }
     ensures depth { IfOk result HasDepth }
     ensures fault { IfErr result (LacksValue (pair_meant (texts captures.now) (option_map (λ t. t.now) asked.entry.within)
-        (option_map (λ t. t.now) asked.entry.shift) asked.entry.lists (option_map (λ t. t.now) asked.entry.by) asked.entry.ignores)) }
+        (option_map (λ t. t.now) asked.entry.shift) asked.entry.lists (option_map (λ t. t.now) asked.entry.by) asked.entry.ignores asked.entry.json)) }
 {
     match captures {
         [sent, received] => Ok(Line::Compare {
@@ -105,6 +108,7 @@ fn pair<'a>(asked: Comparing<'a>, captures: &[&'a str]) -> Result<Line<'a>, Line
             lists: asked.lists,
             by: asked.by,
             ignores: asked.ignores,
+            json: asked.json,
         }),
         _ => Err(LineFault::Unpaired),
     }

@@ -47,6 +47,10 @@ pub enum Line<'a> {
         both: bool,
         /// How long behind its frame that may come, as it was given.
         within: Option<&'a str>,
+        /// Whether all is told as JSON, too.
+        json: bool,
+        /// Whether no progress is shown.
+        quiet: bool,
     },
     /// A look at the texts, and at the captures that are named.
     Check {
@@ -58,6 +62,8 @@ pub enum Line<'a> {
         underlay: Option<&'a str>,
         /// The captures of port 1, port 2 and so on.
         ports: Vec<&'a str>,
+        /// Whether it is told as JSON.
+        json: bool,
     },
     /// The packets of a capture taken apart.
     Explain {
@@ -69,6 +75,8 @@ pub enum Line<'a> {
         values: bool,
         /// The capture of the underlay that is explained.
         capture: &'a str,
+        /// Whether it is told as JSON.
+        json: bool,
     },
     /// A settings text as one of version 2.
     Migrate {
@@ -92,6 +100,8 @@ pub enum Line<'a> {
         tables: bool,
         /// Whether the counts are told.
         summary: bool,
+        /// Whether these are told as JSON.
+        json: bool,
     },
     /// A pcapng capture made one capture for each of its interfaces.
     Split {
@@ -99,6 +109,13 @@ pub enum Line<'a> {
         out: &'a str,
         /// The capture.
         capture: &'a str,
+    },
+    /// A page made of what a run gave.
+    Report {
+        /// The folder that the run wrote into.
+        folder: &'a str,
+        /// The file of the page.
+        page: &'a str,
     },
     /// What was sent compared with what was received.
     Compare {
@@ -116,6 +133,8 @@ pub enum Line<'a> {
         by: Option<&'a str>,
         /// Whether frames to the addresses that no bridge forwards are left aside.
         ignores: bool,
+        /// Whether it is told as JSON.
+        json: bool,
     },
     /// What a run wrote compared with what was captured of what went out.
     CompareWorked {
@@ -139,6 +158,8 @@ pub enum Line<'a> {
         by: Option<&'a str>,
         /// Whether frames to the addresses that no bridge forwards are left aside.
         ignores: bool,
+        /// Whether it is told as JSON.
+        json: bool,
     },
 }
 
@@ -221,7 +242,11 @@ fn input_uses(line: &Line<'_>) -> usize
         Line::Check { ports, .. } => inputs_among(ports.as_slice()),
         Line::Explain { capture, .. } | Line::Split { capture, .. } => inputs_among(&[*capture]),
         Line::Compare { sent, received, .. } => inputs_among(&[*sent, *received]),
-        Line::Sample | Line::Migrate { .. } | Line::Merge { .. } | Line::CompareWorked { .. } => 0,
+        Line::Sample
+        | Line::Migrate { .. }
+        | Line::Merge { .. }
+        | Line::Report { .. }
+        | Line::CompareWorked { .. } => 0,
     }
 }
 

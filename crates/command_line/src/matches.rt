@@ -4,7 +4,7 @@ ghost use Rattle.clap.specs.Words.{all_of, first_of, found_of, rows_of, subcomma
 ghost use Rattle.clap.specs.Walk.{texts};
 ghost use Rattle.command_line.specs.Meaning.{HasDepth, LacksValue, check_meant, compare_meant, depth_in, digest_meant};
 ghost use Rattle.command_line.specs.Meaning.{explain_meant, ignores_in, is_set, line_meant, meaning_of, merge_meant};
-ghost use Rattle.command_line.specs.Meaning.{migrate_meant, moment_in, run_meant, small_depth, split_meant};
+ghost use Rattle.command_line.specs.Meaning.{migrate_meant, moment_in, report_meant, run_meant, small_depth, split_meant};
 ghost use Rattle.command_line.specs.declared.line.LineFault.TheVariants.{OutOfMemory};
 
 use crate::comparing::{Comparing, comparison_line};
@@ -30,6 +30,7 @@ pub(crate) fn line_from<'a>(alloc: Global, matches: &ArgMatches<'a>) -> Result<L
         "merge" => merge_from(alloc, inner),
         "split" => split_from(inner),
         "compare" => compare_from(alloc, inner),
+        "report" => report_from(inner),
         _ => Err(LineFault::NoValue),
     }
 }
@@ -132,6 +133,8 @@ fn run_from<'a>(alloc: Global, inner: &ArgMatches<'a>) -> Result<Line<'a>, LineF
         digests: text(inner, "digests"),
         both: is_set(inner, "both"),
         within: text(inner, "within"),
+        json: is_set(inner, "json"),
+        quiet: is_set(inner, "quiet"),
     })
 }
 
@@ -151,6 +154,7 @@ fn check_from<'a>(alloc: Global, inner: &ArgMatches<'a>) -> Result<Line<'a>, Lin
         changes,
         underlay,
         ports,
+        json: is_set(inner, "json"),
     })
 }
 
@@ -168,6 +172,7 @@ fn explain_from<'a>(inner: &ArgMatches<'a>) -> Result<Line<'a>, LineFault>
         depth,
         values: is_set(inner, "values"),
         capture,
+        json: is_set(inner, "json"),
     })
 }
 
@@ -209,6 +214,7 @@ fn merge_from<'a>(alloc: Global, inner: &ArgMatches<'a>) -> Result<Line<'a>, Lin
         parts,
         tables,
         summary,
+        json: is_set(inner, "json"),
     })
 }
 
@@ -221,6 +227,17 @@ fn split_from<'a>(inner: &ArgMatches<'a>) -> Result<Line<'a>, LineFault>
     let out = text(inner, "out").ok_or(LineFault::NoValue)?;
     let capture = text(inner, "capture").ok_or(LineFault::NoValue)?;
     Ok(Line::Split { out, capture })
+}
+
+/// The line that asks for a page.
+fn report_from<'a>(inner: &ArgMatches<'a>) -> Result<Line<'a>, LineFault>
+    ensures ok { IfOk result (λ line. report_meant (rows_of (found_of inner.now)) ≡ Some (meaning_of line)) }
+    ensures depth { IfOk result HasDepth }
+    ensures fault { IfErr result (LacksValue (report_meant (rows_of (found_of inner.now)))) }
+{
+    let folder = text(inner, "folder").ok_or(LineFault::NoValue)?;
+    let page = text(inner, "out").ok_or(LineFault::NoValue)?;
+    Ok(Line::Report { folder, page })
 }
 
 /// The line that asks for a comparison.
@@ -241,6 +258,7 @@ fn compare_from<'a>(alloc: Global, inner: &ArgMatches<'a>) -> Result<Line<'a>, L
         lists: is_set(inner, "list"),
         by: text(inner, "by"),
         ignores,
+        json: is_set(inner, "json"),
     };
     comparison_line(alloc, asked, captures)
 }

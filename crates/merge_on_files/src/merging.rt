@@ -63,7 +63,7 @@ pub fn merge<'a, R: Files + AllocGlobal>(
         Err(failure) => return Err(failure),
     };
     let inputs = folders.len().saturating_mul(count.saturating_add(2));
-    see_room(rt, inputs, count, false)?;
+    see_room(rt, inputs, count, false, false)?;
     let opened = open_outputs(rt, out, false, count)?;
     drop_part(rt, out)?;
     let mut outputs = opened.emptied(rt.alloc())?;

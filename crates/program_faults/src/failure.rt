@@ -154,6 +154,8 @@ pub enum OutputFile {
     Port(usize),
     Underlay,
     Decisions,
+    /// The decision lines told as JSON objects.
+    Objects,
     /// What a part was made from.
     PartRecord,
     /// What a part counted.
@@ -169,6 +171,7 @@ impl fmt::Display for OutputFile {
             OutputFile::Port(number) => write!(f, "port{number}.pcap"),
             OutputFile::Underlay => f.write_str("underlay.pcap"),
             OutputFile::Decisions => f.write_str("decisions.txt"),
+            OutputFile::Objects => f.write_str("decisions.jsonl"),
             OutputFile::PartRecord => f.write_str("shard.txt"),
             OutputFile::Summary => f.write_str("summary.txt"),
             OutputFile::Tables => f.write_str("tables.txt"),

@@ -17,6 +17,9 @@ pub enum WorkedFailure {
     /// The same capture is named for two places.
     #[error("it is named for two places")]
     Twice,
+    /// This line of a text in the folder isn't what stands there in such a text.
+    #[error("{0}: line {1}")]
+    Line(OutputFile, u64),
     /// The decision lines of the run don't tell the event of a record of this place.
     #[error("decisions.txt for {0}: {1}")]
     Decisions(Tap, DecisionsFault),

@@ -44,11 +44,12 @@ pub use names::{Names, RunInput, file_of, is_read_once, is_regular_file, is_same
 pub use open_files::{files_at_once, has_room, is_refused, see_room};
 pub use output_device::OutputDevice;
 pub use outputs::{
-    Opened, OutputSums, Outputs, PartRecordFile, Written, open_outputs, path_of, spare_inputs,
+    Destination, Opened, OutputSums, Outputs, PartRecordFile, Written, open_outputs, path_of,
+    see_objects, spare_inputs,
 };
 pub use part_inputs::{
     PartFile, PartInput, PartLines, count_lines, is_as_told, may_have_octets, open_output,
     open_part_file,
 };
 pub use part_texts::{drop_part, drop_texts, leave_text};
-pub use printing::print_text;
+pub use printing::{Shown, print_shown, print_text};

@@ -32,23 +32,29 @@ pub fn files_at_once(inputs: usize, ports: usize) -> usize
         .saturating_add(BESIDE_PORTS + 1 + ASIDE)
 }
 
-/// Sees that the outputs of so many ports can be opened, of a part of a run or of a whole, and one file more that is looked at,
-/// where so many files are open that are read. Where the system refuses one of them since too many are open, it is the output
-/// of its number that can't be written, and no output was made or changed. Where there are few, it isn't tried.
+/// Sees that the outputs of so many ports can be opened, of a part of a run or of a whole, with the decision lines as objects or
+/// without, and one file more that is looked at, where so many files are open that are read. Where the system refuses one of them
+/// since too many are open, it is the output of its number that can't be written, and no output was made or changed. Where there are
+/// few, it isn't tried.
 pub fn see_room<R: Files + AllocGlobal>(
     rt: &R,
     inputs: usize,
     ports: usize,
     is_part: bool,
+    has_objects: bool,
 ) -> Result<(), Failure<'static>> {
     let outputs = ports
         .saturating_add(BESIDE_PORTS)
-        .saturating_add(usize::from(is_part));
+        .saturating_add(usize::from(is_part))
+        .saturating_add(usize::from(has_objects));
     if inputs.saturating_add(outputs) < FEW {
         return Ok(());
     }
     match first_refused(rt, outputs.saturating_add(1))? {
-        Some((index, fault)) => Err(Failure::WriteFailed(output_at(index, ports), fault)),
+        Some((index, fault)) => Err(Failure::WriteFailed(
+            output_at(index, ports, has_objects),
+            fault,
+        )),
         None => Ok(()),
     }
 }
@@ -107,11 +113,12 @@ fn first_refused<R: Files + AllocGlobal>(
 }
 
 /// The output that is opened as the one of this number from 0, where there are so many ports.
-fn output_at(index: usize, ports: usize) -> OutputFile {
+fn output_at(index: usize, ports: usize, has_objects: bool) -> OutputFile {
     match index.checked_sub(ports) {
         None => OutputFile::Port(index.saturating_add(1)),
         Some(0) => OutputFile::Underlay,
         Some(1) => OutputFile::Decisions,
+        Some(2) if has_objects => OutputFile::Objects,
         Some(_) => OutputFile::PartRecord,
     }
 }

@@ -27,6 +27,15 @@ const BLOCK: usize = 65_536;
 /// some 59,000 octets: so they go on no more often than those of the captures.
 const LINES_BLOCK: usize = 131_072;
 
+/// Where a run writes.
+#[derive(Clone, Copy, Debug)]
+pub struct Destination<'f> {
+    /// The folder's name.
+    pub name: &'f str,
+    /// Whether the decision lines are written as JSON objects, too, by one who looks on at the run.
+    pub objects: bool,
+}
+
 /// A file that is written in blocks, whose octets are summed where a part writes it.
 pub type Written<F> = BlockOutput<SumOutput<StdOutput<OutputDevice<F>>>>;
 
@@ -70,15 +79,19 @@ pub struct Opened<F: Drop> {
 /// what a part leaves besides, which a whole run takes away.
 pub fn spare_inputs<R: Files + AllocGlobal>(
     rt: &R,
-    folder: &str,
+    to: Destination<'_>,
     names: Names<'_, '_>,
 ) -> Result<(), Failure<'static>> {
+    let folder = to.name;
     let inputs = names.found(rt)?;
     for index in 0..names.ports.len() {
         spare(rt, folder, &inputs, OutputFile::Port(index + 1))?;
     }
     spare(rt, folder, &inputs, OutputFile::Underlay)?;
     spare(rt, folder, &inputs, OutputFile::Decisions)?;
+    if to.objects {
+        spare(rt, folder, &inputs, OutputFile::Objects)?;
+    }
     spare(rt, folder, &inputs, OutputFile::PartRecord)?;
     spare(rt, folder, &inputs, OutputFile::Tables)?;
     spare(rt, folder, &inputs, OutputFile::Summary)
@@ -146,6 +159,21 @@ pub fn open_outputs<R: Files + AllocGlobal>(
         decisions,
         part_file,
     })
+}
+
+/// Sees that the decision lines can be written as objects, where they are to be: their file is made where it isn't there. What
+/// stands in it is kept.
+pub fn see_objects<R: Files + AllocGlobal>(
+    rt: &R,
+    to: Destination<'_>,
+) -> Result<(), Failure<'static>> {
+    if !to.objects {
+        return Ok(());
+    }
+    match open(rt, to.name, OutputFile::Objects) {
+        Ok(_) => Ok(()),
+        Err(failure) => Err(failure),
+    }
 }
 
 /// Opens an output.

@@ -15,8 +15,8 @@ use crate::into_outputs::run_into;
 use crate::run_captures::RunCaptures;
 use program_faults::Failure;
 use program_files::{
-    FailedOutputs, Names, Outputs, PartRecordFile, drop_part, drop_texts, open_outputs, see_room,
-    spare_inputs,
+    Destination, FailedOutputs, Names, Outputs, PartRecordFile, drop_part, drop_texts,
+    open_outputs, see_objects, see_room, spare_inputs,
 };
 use segment_set::SegmentSet;
 use std::io::Input;
@@ -29,7 +29,7 @@ pub(crate) fn run_in_folder<'a, R: Files + Input + AllocGlobal, S: Sieve, T: Wat
     rt: &R,
     names: Names<'_, 'a>,
     read: ReadTexts<'_>,
-    folder: &str,
+    folder: Destination<'_>,
     is_part: bool,
     segments: &SegmentSet,
     captures: &mut RunCaptures<'a, R::File, R::Reader>,
@@ -68,7 +68,7 @@ pub(crate) fn run_in_folder<'a, R: Files + Input + AllocGlobal, S: Sieve, T: Wat
 fn prepare_outputs<'a, R: Files + Input + AllocGlobal>(
     rt: &R,
     names: Names<'_, 'a>,
-    folder: &str,
+    folder: Destination<'_>,
     is_part: bool,
     count: usize,
 ) -> Result<Outputs<R::File>, Failure<'a>>
@@ -76,14 +76,15 @@ fn prepare_outputs<'a, R: Files + Input + AllocGlobal>(
     ensures in_files { IfOk result (λ outputs. AreHeld R.File.contents (written outputs.ports.items outputs.underlay outputs.decisions)) }
 {
     spare_inputs(rt, folder, names)?;
-    see_room(rt, count.saturating_add(1), count, is_part)?;
-    let opened = open_outputs(rt, folder, is_part, count)?;
+    see_room(rt, count.saturating_add(1), count, is_part, folder.objects)?;
+    let opened = open_outputs(rt, folder.name, is_part, count)?;
+    see_objects(rt, folder)?;
     see_headers(rt, names)?;
     // What says of outputs that they are a part's goes before they change.
     if is_part {
-        drop_texts(rt, folder)?;
+        drop_texts(rt, folder.name)?;
     } else {
-        drop_part(rt, folder)?;
+        drop_part(rt, folder.name)?;
     }
     let outputs = opened.emptied(rt.alloc())?;
     Ok(outputs)

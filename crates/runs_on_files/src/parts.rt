@@ -18,7 +18,9 @@ use part_record::{
     text_of,
 };
 use program_faults::{DigestsFailure, Failure, OutputFile};
-use program_files::{FailedOutputs, Names, OutputSums, PartLines, PartRecordFile, count_lines};
+use program_files::{
+    Destination, FailedOutputs, Names, OutputSums, PartLines, PartRecordFile, count_lines,
+};
 use segment_set::SegmentSet;
 use sha2::{Digest, Sha256};
 use std::alloc::Global;
@@ -76,7 +78,7 @@ pub fn run_part<'a, R: Files + Input + AllocGlobal, S: Sieve, T: Watch>(
     names: Names<'_, 'a>,
     texts: &Texts,
     told: Option<&[TimedChange]>,
-    folder: &str,
+    folder: Destination<'_>,
     list: &'a str,
     segments: &SegmentSet,
     both: Option<u64>,
@@ -118,7 +120,7 @@ pub fn run_part<'a, R: Files + Input + AllocGlobal, S: Sieve, T: Watch>(
         Ok(digests) => digests,
         Err(failure) => return Err(failure),
     };
-    let lines = match lines_written(rt, folder) {
+    let lines = match lines_written(rt, folder.name) {
         Ok(lines) => lines,
         Err(failure) => return Err(failure),
     };

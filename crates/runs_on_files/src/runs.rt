@@ -16,7 +16,9 @@ use crate::unwritten::run_into_nothing;
 use capture_run::{RunFault, of_changes, of_settings};
 use overlay_config::{Settings, TimedChange, changes_of, settings_of};
 use program_faults::Failure;
-use program_files::{FailedOutputs, Names, PartRecordFile, open_capture, open_captures};
+use program_files::{
+    Destination, FailedOutputs, Names, PartRecordFile, open_capture, open_captures,
+};
 use segment_set::SegmentSet;
 use std::alloc::{AllocError, Global};
 use std::io::{Input, Read};
@@ -73,7 +75,7 @@ pub fn run_on_files<'a, R: Files + Input + AllocGlobal, S: Sieve, T: Watch>(
     names: Names<'_, 'a>,
     texts: &Texts,
     told: Option<&[TimedChange]>,
-    folder: Option<&str>,
+    folder: Option<Destination<'_>>,
     scope: Scope<'_>,
     sieve: &mut S,
     watch: &mut T,
@@ -111,7 +113,7 @@ fn run_on_opened<'a, R: Files + Input + AllocGlobal, S: Sieve, T: Watch>(
     names: Names<'_, 'a>,
     texts: &Texts,
     told: Option<&[TimedChange]>,
-    folder: Option<&str>,
+    folder: Option<Destination<'_>>,
     scope: Scope<'_>,
     captures: RunCaptures<'a, R::File, R::Reader>,
     sieve: &mut S,
@@ -158,7 +160,7 @@ fn run_on_captures<'a, R: Files + Input + AllocGlobal, S: Sieve, T: Watch>(
     names: Names<'_, 'a>,
     texts: &Texts,
     told: Option<&[TimedChange]>,
-    folder: Option<&str>,
+    folder: Option<Destination<'_>>,
     scope: Scope<'_>,
     captures: &mut RunCaptures<'a, R::File, R::Reader>,
     sieve: &mut S,
@@ -207,7 +209,7 @@ fn run_on_read<'a, R: Files + Input + AllocGlobal, S: Sieve, T: Watch>(
     texts: &Texts,
     settings: Settings,
     told: &[TimedChange],
-    folder: Option<&str>,
+    folder: Option<Destination<'_>>,
     scope: Scope<'_>,
     captures: &mut RunCaptures<'a, R::File, R::Reader>,
     sieve: &mut S,

@@ -16,7 +16,8 @@ first_no_event names = find (λ name. not (is_event_name name)) names
 
 -- that of the names whose stories are asked for
 abbrev pub no_event_in : Meaning → Option Text
-no_event_in (run settings changes underlay out ports tables tables_at why summary talkers segments digests both within) = first_no_event why
+no_event_in (run settings changes underlay out ports tables tables_at why summary talkers segments digests both within json quiet) =
+    first_no_event why
 no_event_in _ = None
 
 -- each name can be an event's
@@ -34,8 +35,8 @@ unknown_table (Some name) = if is_table_name name then None else Some name
 
 -- that by which a table is asked for
 abbrev pub no_table_in : Meaning → Option Text
-no_table_in (compare sent received within shift lists by ignores) = unknown_table by
-no_table_in (compare_worked worked underlay ports within shift settings strict lists by ignores) = unknown_table by
+no_table_in (compare sent received within shift lists by ignores json) = unknown_table by
+no_table_in (compare_worked worked underlay ports within shift settings strict lists by ignores json) = unknown_table by
 no_table_in _ = None
 
 -- where one is asked for, there is such a table

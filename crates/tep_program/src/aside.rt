@@ -2,12 +2,13 @@
 use capture_compare::Aside;
 use compare_lines::AsideLines;
 use program_faults::Failure;
-use program_files::print_text;
+use program_files::{Shown, print_shown};
 use timeline::Tap;
 
 /// Prints how many were, where some may be.
 pub(crate) fn print_aside<R: AllocGlobal + Print>(
     rt: &R,
+    shown: Shown,
     at: Option<Tap>,
     aside: Option<Aside>,
 ) -> Result<(), Failure<'static>> {
@@ -16,5 +17,5 @@ pub(crate) fn print_aside<R: AllocGlobal + Print>(
     };
     let lines = AsideLines { at, aside };
     let text = format!(in rt.alloc(); "{lines}")?;
-    print_text(rt, text.as_bytes())
+    print_shown(rt, shown, text.as_bytes())
 }

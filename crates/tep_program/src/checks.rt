@@ -14,7 +14,7 @@ use foreseen_changes::foresee;
 use overlay_config::{Settings, TimedChange};
 use pcap_io::CaptureFault;
 use program_faults::{Failure, OneLine};
-use program_files::{Names, SeenCapture, open_seen, print_text, read_file, read_if_given};
+use program_files::{Names, SeenCapture, Shown, open_seen, print_shown, read_file, read_if_given};
 use runs_on_files::Texts;
 use std::fmt::Write;
 use std::io::{Input, Read};
@@ -54,6 +54,7 @@ impl<'a> Seen<'a> {
 /// something couldn't be printed.
 pub fn check<'a, R: Files + Input + AllocGlobal + Print>(
     rt: &R,
+    shown: Shown,
     settings: &'a str,
     changes: Option<&'a str>,
     underlay: Option<&'a str>,
@@ -64,8 +65,8 @@ pub fn check<'a, R: Files + Input + AllocGlobal + Print>(
         changes: read_if_given(rt, changes)?,
     };
     let mut counts = RecordCounts::new();
-    let seen_texts = look_at_texts(rt, settings, changes, &texts, ports.len())?;
-    let seen = seen_texts.and(look_at_captures(rt, underlay, ports, &mut counts));
+    let seen_texts = look_at_texts(rt, shown, settings, changes, &texts, ports.len())?;
+    let seen = seen_texts.and(look_at_captures(rt, shown, underlay, ports, &mut counts));
     let Some(underlay) = underlay else {
         return seen.found.and(seen.told);
     };
@@ -78,11 +79,11 @@ pub fn check<'a, R: Files + Input + AllocGlobal + Print>(
                 ports,
                 digests: None,
             };
-            print_echoes(rt, names, &texts, &counts)
+            print_echoes(rt, shown, names, &texts, &counts)
         }
         Err(_) => Ok(()),
     };
-    let swapped = print_swapped(rt, texts.settings.as_slice(), underlay, ports);
+    let swapped = print_swapped(rt, shown, texts.settings.as_slice(), underlay, ports);
     seen.found.and(seen.told).and(echoes).and(swapped)
 }
 
@@ -90,6 +91,7 @@ pub fn check<'a, R: Files + Input + AllocGlobal + Print>(
 /// refused.
 fn look_at_texts<R: Files + AllocGlobal + Print>(
     rt: &R,
+    shown: Shown,
     settings: &str,
     changes: Option<&str>,
     texts: &Texts,
@@ -107,14 +109,16 @@ fn look_at_texts<R: Files + AllocGlobal + Print>(
         Ok(read) => read,
         Err(fault) => {
             // Where it can't be printed, the fault still tells that and why the text is refused.
-            let _ = print_refused(rt, settings, changes, &fault);
+            let _ = print_refused(rt, shown, settings, changes, &fault);
             return Err(Failure::Run(fault));
         }
     };
-    let counted = print_counts(rt, &read, told.as_slice()).and(print_open_files(rt, &read));
+    let counted = print_counts(rt, shown, &read, told.as_slice()).and(print_open_files(
+        rt, shown, &read,
+    ));
     Ok(Seen {
         found: see_count(read.ports().len(), captures),
-        told: counted.and(print_foreseen(rt, read, told)),
+        told: counted.and(print_foreseen(rt, shown, read, told)),
     })
 }
 
@@ -130,20 +134,22 @@ fn see_count(ports: usize, captures: usize) -> Result<(), Failure<'static>> {
 /// Prints how many ports, segments and changes there are.
 fn print_counts<R: AllocGlobal + Print>(
     rt: &R,
+    shown: Shown,
     settings: &Settings,
     changes: &[TimedChange],
 ) -> Result<(), Failure<'static>> {
     let line = check_read(rt.alloc(), settings, changes)?;
-    print_text(rt, line.as_slice())
+    print_shown(rt, shown, line.as_slice())
 }
 
 /// Prints how many files a run with these settings opens at once, where so many can't be open.
 fn print_open_files<R: Files + AllocGlobal + Print>(
     rt: &R,
+    shown: Shown,
     settings: &Settings,
 ) -> Result<(), Failure<'static>> {
     match open_files_line(rt, settings.ports().len())? {
-        Some(line) => print_text(rt, line.as_bytes()),
+        Some(line) => print_shown(rt, shown, line.as_bytes()),
         None => Ok(()),
     }
 }
@@ -151,13 +157,14 @@ fn print_open_files<R: Files + AllocGlobal + Print>(
 /// Prints where the text is refused that a fault tells of, and why.
 fn print_refused<R: AllocGlobal + Print>(
     rt: &R,
+    shown: Shown,
     settings: Named<'_, '_>,
     changes: Named<'_, '_>,
     fault: &RunFault,
 ) -> Result<(), Failure<'static>> {
     match fault {
-        RunFault::Settings(fault) => print_advice(rt, TextKind::Settings, settings, fault),
-        RunFault::Changes(fault) => print_advice(rt, TextKind::Changes, changes, fault),
+        RunFault::Settings(fault) => print_advice(rt, shown, TextKind::Settings, settings, fault),
+        RunFault::Changes(fault) => print_advice(rt, shown, TextKind::Changes, changes, fault),
         _ => Ok(()),
     }
 }
@@ -165,13 +172,14 @@ fn print_refused<R: AllocGlobal + Print>(
 /// Prints where a text is refused, and why.
 fn print_advice<R: AllocGlobal + Print>(
     rt: &R,
+    shown: Shown,
     kind: TextKind,
     named: Named<'_, '_>,
     fault: &SettingsFault,
 ) -> Result<(), Failure<'static>> {
     let at = syntax_error_at(rt.alloc(), named.text)?;
-    let shown = OneLine(named.name);
-    let name = format!(in rt.alloc(); "{shown}")?;
+    let line = OneLine(named.name);
+    let name = format!(in rt.alloc(); "{line}")?;
     let told = advice(
         rt.alloc(),
         kind,
@@ -180,12 +188,13 @@ fn print_advice<R: AllocGlobal + Print>(
         fault,
         at.as_ref(),
     )?;
-    print_text(rt, told.as_slice())
+    print_shown(rt, shown, told.as_slice())
 }
 
 /// Prints the changes that the settings will refuse at their moments.
 fn print_foreseen<R: AllocGlobal + Print>(
     rt: &R,
+    shown: Shown,
     settings: Settings,
     changes: Vec<TimedChange>,
 ) -> Result<(), Failure<'static>> {
@@ -193,12 +202,13 @@ fn print_foreseen<R: AllocGlobal + Print>(
     for refusal in &foresee(rt.alloc(), settings, changes.as_slice())? {
         writeln!(text, "{refusal}")?;
     }
-    print_text(rt, text.as_bytes())
+    print_shown(rt, shown, text.as_bytes())
 }
 
 /// Prints what is in each capture that is named, ports rising and then the underlay.
 fn look_at_captures<'a, R: Files + Input + AllocGlobal + Print>(
     rt: &R,
+    shown: Shown,
     underlay: Option<&'a str>,
     ports: &[&'a str],
     counts: &mut RecordCounts,
@@ -208,10 +218,10 @@ fn look_at_captures<'a, R: Files + Input + AllocGlobal + Print>(
         told: Ok(()),
     };
     for (index, name) in ports.iter().enumerate() {
-        seen = seen.and(look_at_capture(rt, tap_of(index), *name, counts));
+        seen = seen.and(look_at_capture(rt, shown, tap_of(index), *name, counts));
     }
     match underlay {
-        Some(name) => seen.and(look_at_capture(rt, Tap::Underlay, name, counts)),
+        Some(name) => seen.and(look_at_capture(rt, shown, Tap::Underlay, name, counts)),
         None => seen,
     }
 }
@@ -219,17 +229,19 @@ fn look_at_captures<'a, R: Files + Input + AllocGlobal + Print>(
 /// Prints which captures look as if they stood in each other's place.
 fn print_swapped<R: Files + Input + AllocGlobal + Print>(
     rt: &R,
+    shown: Shown,
     settings: &[u8],
     underlay: &str,
     ports: &[&str],
 ) -> Result<(), Failure<'static>> {
     let lines = swapped_lines(rt, settings, underlay, ports)?;
-    print_text(rt, lines.as_bytes())
+    print_shown(rt, shown, lines.as_bytes())
 }
 
 /// Prints what is in a capture, and counts its records.
 fn look_at_capture<'a, R: Files + Input + AllocGlobal + Print>(
     rt: &R,
+    shown: Shown,
     tap: Tap,
     name: &'a str,
     counts: &mut RecordCounts,
@@ -254,29 +266,34 @@ fn look_at_capture<'a, R: Files + Input + AllocGlobal + Print>(
             };
             Seen {
                 found: Ok(()),
-                told: print_report(rt, report).and(print_missing(rt, name)),
+                told: print_report(rt, shown, report).and(print_missing(rt, shown, name)),
             }
         }
         Err(fault) => Seen {
             found: Err(failure_of(tap, name, &capture, fault)),
-            told: print_kind(rt, tap, kind, fault),
+            told: print_kind(rt, shown, tap, kind, fault),
         },
     }
 }
 
 /// Prints a report.
-fn print_report<R: AllocGlobal + Print>(rt: &R, report: Report) -> Result<(), Failure<'static>> {
+fn print_report<R: AllocGlobal + Print>(
+    rt: &R,
+    shown: Shown,
+    report: Report,
+) -> Result<(), Failure<'static>> {
     let text = format!(in rt.alloc(); "{report}")?;
-    print_text(rt, text.as_bytes())
+    print_shown(rt, shown, text.as_bytes())
 }
 
 /// Prints which interfaces a capture has, where none of them is asked for by its name.
 fn print_missing<R: Files + AllocGlobal + Print>(
     rt: &R,
+    shown: Shown,
     name: &str,
 ) -> Result<(), Failure<'static>> {
     match missing_interface(rt, name)? {
-        Some(line) => print_text(rt, line.as_bytes()),
+        Some(line) => print_shown(rt, shown, line.as_bytes()),
         None => Ok(()),
     }
 }
@@ -284,6 +301,7 @@ fn print_missing<R: Files + AllocGlobal + Print>(
 /// Prints what a file is, where it is no capture that is read.
 fn print_kind<R: AllocGlobal + Print>(
     rt: &R,
+    shown: Shown,
     tap: Tap,
     kind: FileKind,
     fault: SurveyFault,
@@ -292,7 +310,7 @@ fn print_kind<R: AllocGlobal + Print>(
         return Ok(());
     }
     let text = format!(in rt.alloc(); "{tap}: {kind}\n")?;
-    print_text(rt, text.as_bytes())
+    print_shown(rt, shown, text.as_bytes())
 }
 
 /// A fault of a capture as a run would tell it.

@@ -6,7 +6,7 @@ use crate::paired::Pairing;
 use crate::report::Told;
 use command_line::time_of;
 use program_faults::Failure;
-use program_files::open_seen;
+use program_files::{Shown, open_seen};
 use record_match::Clock;
 use std::io::Input;
 use std::rt::Files;
@@ -34,6 +34,8 @@ pub struct Compared<'a> {
     pub by: Option<&'a str>,
     /// Whether frames to the addresses that no bridge forwards are left aside.
     pub ignores: bool,
+    /// How it is printed.
+    pub shown: Shown,
 }
 
 /// Compares two captures, and prints how many records were sent, were received, are both, and are of one alone. What was
@@ -43,7 +45,13 @@ pub fn compare<'a, R: Files + Input + AllocGlobal + Print>(
     asked: Compared<'a>,
 ) -> Result<(), Failure<'a>> {
     let clock = clock_of(asked.within, asked.shift)?;
-    let told = Told::of(asked.lists, asked.by, clock, asked.shift.is_some());
+    let told = Told::of(
+        asked.shown,
+        asked.lists,
+        asked.by,
+        clock,
+        asked.shift.is_some(),
+    );
     let pairing = Pairing {
         at: None,
         sent: asked.sent,

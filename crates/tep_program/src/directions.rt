@@ -3,7 +3,9 @@ use both_ways::BothWays;
 use command_line::time_of;
 use overlay_config::settings_of;
 use program_faults::Failure;
+use run_counts::{Flows, RunCounts};
 use std::alloc::{AllocError, Global};
+use stream_run::TakesAll;
 use text_calls::tap_of;
 use timeline::Tap;
 
@@ -41,6 +43,35 @@ pub fn sieve_of(
         }
         Err(_) => Ok(None),
     }
+}
+
+/// What tells how many records of a capture a run left out.
+pub trait LeavesOut {
+    /// How many records of this capture.
+    fn left_out_at(&self, tap: Tap) -> u64;
+}
+
+impl LeavesOut for TakesAll {
+    fn left_out_at(&self, _tap: Tap) -> u64 {
+        0
+    }
+}
+
+impl LeavesOut for BothWays {
+    fn left_out_at(&self, tap: Tap) -> u64 {
+        self.left_out(tap)
+    }
+}
+
+/// How many records the captures at these taps have: those that came, and those that were left out.
+pub fn records_at<L: LeavesOut>(counts: &RunCounts, sieve: &L, taps: &[Tap]) -> Flows {
+    let mut records = Flows::none();
+    for tap in taps {
+        let mut flow = counts.came(*tap);
+        flow.frames = flow.frames.saturating_add(sieve.left_out_at(*tap));
+        records.set(*tap, flow);
+    }
+    records
 }
 
 /// Tells of the captures of so many ports and of the underlay how many records were left out.

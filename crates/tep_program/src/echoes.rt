@@ -6,7 +6,7 @@ use crate::nobody::Nobody;
 use both_ways::BothWays;
 use capture_survey::Echoes;
 use program_faults::Failure;
-use program_files::{Names, print_text};
+use program_files::{Names, Shown, print_shown};
 use runs_on_files::{Texts, run_unwritten};
 use segment_set::SegmentSet;
 use std::fmt::Write;
@@ -59,6 +59,7 @@ fn place_of(tap: Tap) -> usize
 /// run stops at a fault.
 pub fn print_echoes<R: Files + Input + AllocGlobal + Print>(
     rt: &R,
+    shown: Shown,
     names: Names<'_, '_>,
     texts: &Texts,
     counts: &RecordCounts,
@@ -76,7 +77,7 @@ pub fn print_echoes<R: Files + Input + AllocGlobal + Print>(
     }
     let echoes = echoes_at(&sieve, counts, Tap::Underlay);
     write!(lines, "{echoes}")?;
-    print_text(rt, lines.as_bytes())
+    print_shown(rt, shown, lines.as_bytes())
 }
 
 /// What a run with `--both` leaves out, behind it.

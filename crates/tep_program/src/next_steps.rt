@@ -42,7 +42,8 @@ fn tell_ports(rt: &impl Eprint, line: &Line<'_>) {
         _ => return,
     };
     let _ = eprintln!(rt;
-        "  captures of ports: {ports}; one for each port of the settings is wanted, and of one without traffic a header will do: head -c 24 CAPTURE"
+        "  captures of ports: {ports}; one for each port of the settings is wanted, and of one without traffic a header will do: \
+        head -c 24 CAPTURE"
     );
 }
 

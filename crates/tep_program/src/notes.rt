@@ -72,7 +72,8 @@ pub(crate) fn ports_in<R: Files + AllocGlobal>(rt: &R, folder: &str) -> Result<u
     Ok(MOST_PORTS)
 }
 
-/// Tells which captures of ports lie in the folder that a run of so many ports doesn't write. What an earlier part left besides
+/// Tells which captures of ports lie in the folder that a run of so many ports doesn't write, and whether decision lines as objects
+/// do. What an earlier part left besides
 /// is gone: a run and a merge take it away first.
 fn tell_left<R: Files + AllocGlobal + Eprint>(
     rt: &R,
@@ -85,7 +86,18 @@ fn tell_left<R: Files + AllocGlobal + Eprint>(
     for index in ports..MOST_PORTS {
         tell_if_there(rt, folder, OutputFile::Port(index + 1))?;
     }
+    if !has_objects(line) {
+        tell_if_there(rt, folder, OutputFile::Objects)?;
+    }
     Ok(())
+}
+
+/// Whether a line asks for decision lines as objects.
+fn has_objects(line: &Line<'_>) -> bool {
+    match line {
+        Line::Run { json, .. } => *json,
+        _ => false,
+    }
 }
 
 /// Tells of an output that lies there and isn't of this run.

@@ -59,10 +59,13 @@ fn opening_of<R: Files + AllocGlobal>(
             changes,
             underlay,
             ports,
+            json,
             ..
         } => {
             let texts = count_handed_on(&[*settings, (*changes).unwrap_or(""), *underlay]);
-            let aside = texts.saturating_add(count_handed_on(ports.as_slice()));
+            let aside = texts
+                .saturating_add(count_handed_on(ports.as_slice()))
+                .saturating_add(usize::from(*json));
             Ok(Some(opening_of_run(ports.len(), aside)))
         }
         Line::Merge { parts, .. } => match parts.first() {

@@ -10,7 +10,7 @@ use capture_compare::Aside;
 use carried_key::{Manner, Sameness};
 use compare_lines::{CountLines, Counts, Scope};
 use program_faults::Failure;
-use program_files::{SeenCapture, print_text};
+use program_files::{SeenCapture, Shown, print_shown};
 use std::io::Read;
 use std::rt::Files;
 use timeline::Tap;
@@ -65,7 +65,7 @@ fn compare_reported<'a, R: AllocGlobal + Print, F: Read + Drop, I: Read + Drop, 
         report,
     )?;
     let aside = manner.ignores_reserved.then_some(aside);
-    let printed = print_counts(rt, pairing.at, counts, aside);
+    let printed = print_counts(rt, report.shown(), pairing.at, counts, aside);
     let reported = report.finish();
     match end.and(printed).and(reported) {
         Ok(()) => Ok(counts),
@@ -108,24 +108,26 @@ pub(crate) fn compare_whole<'a, R: AllocGlobal + Print + Files, F: Read + Drop, 
 /// may be.
 fn print_counts<R: AllocGlobal + Print>(
     rt: &R,
+    shown: Shown,
     at: Option<Tap>,
     counts: Counts,
     aside: Option<Aside>,
 ) -> Result<(), Failure<'static>> {
     match at {
-        Some(tap) => print_lines(rt, Scope::Place(tap), counts)?,
-        None => print_lines(rt, Scope::Pair, counts)?,
+        Some(tap) => print_lines(rt, shown, Scope::Place(tap), counts)?,
+        None => print_lines(rt, shown, Scope::Pair, counts)?,
     }
-    print_aside(rt, at, aside)
+    print_aside(rt, shown, at, aside)
 }
 
 /// Prints counts.
 pub(crate) fn print_lines<R: AllocGlobal + Print>(
     rt: &R,
+    shown: Shown,
     scope: Scope,
     counts: Counts,
 ) -> Result<(), Failure<'static>> {
     let lines = CountLines { scope, counts };
     let text = format!(in rt.alloc(); "{lines}")?;
-    print_text(rt, text.as_bytes())
+    print_shown(rt, shown, text.as_bytes())
 }

@@ -19,10 +19,15 @@ use capture_run::{RunFault, of_settings};
 use clap::error::ErrorKind as Refusal;
 use command_line::{Line, LineFault, line_of};
 use explanation::{Values, explain_bytes};
+use json_forms::Kind;
 use merge_on_files::{TextsAsked, merge};
 use overlay_config::migrate;
+use page_on_files::make_page;
 use program_faults::{Failure, OutputFile, is_lost};
-use program_files::{FailedOutputs, Names, print_text, read_file, read_underlay};
+use program_files::{
+    FailedOutputs, Names, Shown, print_shown, print_text, read_file, read_underlay,
+};
+use run_progress::Screen;
 use run_reports::is_event_name;
 use runs_on_files::print_digests;
 use sample_run::sample;
@@ -32,12 +37,15 @@ use std::env;
 use std::io::{ErrorKind, Input};
 use std::process::ExitCode;
 use std::rt::{Env, Files};
+use std::time::Clock;
 
 /// The exit status where the words are refused.
 const WORDS_REFUSED: u8 = 2;
 
 /// Gets the words of the process, and does what they ask for.
-pub fn start<R: Env + Files + Input + AllocGlobal + Print + Eprint>(rt: &R) -> ExitCode {
+pub fn start<R: Env + Files + Input + AllocGlobal + Print + Eprint + Clock + Screen>(
+    rt: &R,
+) -> ExitCode {
     let status = match env::args(rt) {
         Ok(words) => status(rt, words),
         Err(error) if error.kind() == ErrorKind::OutOfMemory => Err(AllocError),
@@ -47,7 +55,7 @@ pub fn start<R: Env + Files + Input + AllocGlobal + Print + Eprint>(rt: &R) -> E
 }
 
 /// The exit status, or that memory ran out before the words were read.
-fn status<R: Files + Input + AllocGlobal + Print + Eprint>(
+fn status<R: Files + Input + AllocGlobal + Print + Eprint + Clock + Screen>(
     rt: &R,
     words: env::Args<Global>,
 ) -> Result<u8, AllocError> {
@@ -61,7 +69,10 @@ fn status<R: Files + Input + AllocGlobal + Print + Eprint>(
 
 /// Does what the words ask for, the program's name first, and answers the exit status: 0 where it is done, 1 where a text
 /// or a capture is refused, 2 where the words are, and 3 for want of memory or a read or a write that failed.
-pub fn run<'a, R: Files + Input + AllocGlobal + Print + Eprint>(rt: &R, words: &'a [&'a str]) -> u8
+pub fn run<'a, R: Files + Input + AllocGlobal + Print + Eprint + Clock + Screen>(
+    rt: &R,
+    words: &'a [&'a str],
+) -> u8
     ensures { IsStatusOf (texts words.entry.now) result }
 {
     match line_of(rt.alloc(), words) {
@@ -126,7 +137,10 @@ fn no_event(rt: &impl Eprint, name: &str) -> u8
 }
 
 /// The exit status of what a line asks for, which is done.
-fn performed<'a, R: Files + Input + AllocGlobal + Print + Eprint>(rt: &R, line: &Line<'a>) -> u8
+fn performed<'a, R: Files + Input + AllocGlobal + Print + Eprint + Clock + Screen>(
+    rt: &R,
+    line: &Line<'a>,
+) -> u8
     requires { HasDepth line.now }
     ensures { IsDoneStatus result }
 {
@@ -164,7 +178,7 @@ fn stopped(rt: &impl Eprint, failure: &Failure<'_>) -> u8
 }
 
 /// Does what a line asks for.
-fn perform<'a, R: Files + Input + AllocGlobal + Print + Eprint>(
+fn perform<'a, R: Files + Input + AllocGlobal + Print + Eprint + Clock + Screen>(
     rt: &R,
     line: &Line<'a>,
     failed: &mut FailedOutputs,
@@ -178,7 +192,15 @@ fn perform<'a, R: Files + Input + AllocGlobal + Print + Eprint>(
             changes,
             underlay,
             ports,
-        } => check(rt, *settings, *changes, *underlay, ports.as_slice()),
+            json,
+        } => check(
+            rt,
+            Shown::of(*json, Kind::Looks),
+            *settings,
+            *changes,
+            *underlay,
+            ports.as_slice(),
+        ),
         Line::Run {
             settings,
             changes,
@@ -194,6 +216,8 @@ fn perform<'a, R: Files + Input + AllocGlobal + Print + Eprint>(
             digests,
             both,
             within,
+            json,
+            quiet,
         } => {
             let names = Names {
                 settings: *settings,
@@ -210,6 +234,8 @@ fn perform<'a, R: Files + Input + AllocGlobal + Print + Eprint>(
                 talkers: *talkers,
                 segments: *segments,
                 within: within_of(*both, *within)?,
+                json: *json,
+                quiet: *quiet,
             };
             run_and_tell(rt, names, *out, asked, failed)
         }
@@ -218,7 +244,15 @@ fn perform<'a, R: Files + Input + AllocGlobal + Print + Eprint>(
             depth,
             values,
             capture,
-        } => explain(rt, *settings, *depth, *values, *capture),
+            json,
+        } => explain(
+            rt,
+            Shown::of(*json, Kind::Events),
+            *settings,
+            *depth,
+            *values,
+            *capture,
+        ),
         Line::Migrate { settings } => print_migrated(rt, *settings),
         Line::Digest { underlay, ports } => print_digests(rt, *underlay, ports.as_slice()),
         Line::Merge {
@@ -226,14 +260,16 @@ fn perform<'a, R: Files + Input + AllocGlobal + Print + Eprint>(
             parts,
             tables,
             summary,
+            json,
         } => {
             let asked = TextsAsked {
                 tables: *tables,
                 summary: *summary,
             };
-            merge_and_tell(rt, *out, parts.as_slice(), asked, failed)
+            merge_and_tell(rt, *out, parts.as_slice(), asked, *json, failed)
         }
         Line::Split { out, capture } => split(rt, *out, *capture),
+        Line::Report { folder, page } => make_page(rt, *folder, *page),
         Line::Compare {
             sent,
             received,
@@ -242,6 +278,7 @@ fn perform<'a, R: Files + Input + AllocGlobal + Print + Eprint>(
             lists,
             by,
             ignores,
+            json,
         } => {
             let asked = Compared {
                 sent: *sent,
@@ -251,6 +288,7 @@ fn perform<'a, R: Files + Input + AllocGlobal + Print + Eprint>(
                 lists: *lists,
                 by: *by,
                 ignores: *ignores,
+                shown: Shown::of(*json, Kind::Compared),
             };
             compare(rt, asked)
         }
@@ -265,6 +303,7 @@ fn perform<'a, R: Files + Input + AllocGlobal + Print + Eprint>(
             lists,
             by,
             ignores,
+            json,
         } => {
             let asked = Worked {
                 folder: *worked,
@@ -277,6 +316,7 @@ fn perform<'a, R: Files + Input + AllocGlobal + Print + Eprint>(
                 lists: *lists,
                 by: *by,
                 ignores: *ignores,
+                shown: Shown::of(*json, Kind::Compared),
             };
             compare_worked(rt, asked)
         }
@@ -289,12 +329,13 @@ fn merge_and_tell<'a, R: Files + AllocGlobal + Print>(
     out: &str,
     folders: &[&'a str],
     asked: TextsAsked,
+    json: bool,
     failed: &mut FailedOutputs,
 ) -> Result<(), Failure<'a>> {
     match merge(rt, out, folders, asked, failed) {
-        Ok(told) => {
-            print_text(rt, told.tables.as_slice()).and(print_text(rt, told.summary.as_slice()))
-        }
+        Ok(told) => print_shown(rt, Shown::of(json, Kind::Tables), told.tables.as_slice()).and(
+            print_shown(rt, Shown::of(json, Kind::Counts), told.summary.as_slice()),
+        ),
         Err(failure) => Err(failure),
     }
 }
@@ -320,6 +361,7 @@ fn print_migrated<'a, R: Files + AllocGlobal + Print>(
 /// Prints how the packets of a capture are made up, and what is decided of them.
 fn explain<'a, R: Files + Input + AllocGlobal + Print>(
     rt: &R,
+    shown: Shown,
     settings: &'a str,
     depth: u8,
     values: bool,
@@ -341,5 +383,5 @@ fn explain<'a, R: Files + Input + AllocGlobal + Print>(
             Values::Hidden
         },
     )?;
-    print_text(rt, text.as_slice())
+    print_shown(rt, shown, text.as_slice())
 }

@@ -10,7 +10,7 @@ use carried_key::Manner;
 use compare_lines::{Lonely, LonelyLine};
 use lonely_records::Reading;
 use program_faults::Failure;
-use program_files::print_text;
+use program_files::{Shown, print_shown};
 use record_match::{Clock, Onlooker, Seen};
 use std::io::Read;
 use std::rt::Files;
@@ -23,16 +23,24 @@ pub(crate) struct Told {
     pub(crate) table: Option<TableBy>,
     /// How much the clock of delays is ahead, in nanoseconds.
     pub(crate) ahead: u64,
+    pub(crate) shown: Shown,
 }
 
 impl Told {
     /// What the words ask for, of captures on a clock. Where that is shifted, a record may be received as much earlier as later: so
     /// much is the clock of delays ahead.
-    pub(crate) fn of(lists: bool, by: Option<&str>, clock: Clock, is_shifted: bool) -> Told {
+    pub(crate) fn of(
+        shown: Shown,
+        lists: bool,
+        by: Option<&str>,
+        clock: Clock,
+        is_shifted: bool,
+    ) -> Told {
         Told {
             lists,
             table: by.and_then(|name| TableBy::of(name)),
             ahead: if is_shifted { clock.within / 2 } else { 0 },
+            shown,
         }
     }
 }
@@ -42,6 +50,7 @@ impl Told {
 #[derive(Drop)]
 pub(crate) struct Report<'r, 'a, R, F: Read + Drop> {
     rt: &'r R,
+    shown: Shown,
     pairing: Pairing<'a>,
     reading: Reading,
     lists: bool,
@@ -70,6 +79,7 @@ pub(crate) fn open_report<'r, 'a, R: AllocGlobal + Print + Files>(
     };
     Ok(Report {
         rt,
+        shown: told.shown,
         pairing: *pairing,
         reading: reading_of(manner),
         lists: told.lists,
@@ -81,6 +91,11 @@ pub(crate) fn open_report<'r, 'a, R: AllocGlobal + Print + Files>(
 }
 
 impl<'r, 'a, R: AllocGlobal + Print, F: Read + Drop> Report<'r, 'a, R, F> {
+    /// How it prints.
+    pub(crate) fn shown(&self) -> Shown {
+        self.shown
+    }
+
     /// Whether it tells nothing.
     pub(crate) fn is_silent(&self) -> bool {
         !self.lists && self.table.is_none() && self.segments.is_none()
@@ -96,7 +111,7 @@ impl<'r, 'a, R: AllocGlobal + Print, F: Read + Drop> Report<'r, 'a, R, F> {
         if let Some(failure) = self.failure.take() {
             return Err(failure);
         }
-        self.table.print(self.rt, self.pairing.at)?;
+        self.table.print(self.rt, self.shown, self.pairing.at)?;
         Ok(())
     }
 
@@ -117,7 +132,7 @@ impl<'r, 'a, R: AllocGlobal + Print, F: Read + Drop> Report<'r, 'a, R, F> {
             let within = self.pairing.clock.within;
             worked.tell(&mut line, self.pairing.sent, self.reading, within, seen)?;
         }
-        print_line(self.rt, &line)
+        print_line(self.rt, self.shown, &line)
     }
 
     /// The line of a record, as its own capture tells it.
@@ -163,7 +178,11 @@ impl<'r, 'a, R: AllocGlobal + Print, F: Read + Drop> Onlooker for Report<'r, 'a,
 }
 
 /// Prints the line of a record that is of one capture alone.
-fn print_line<R: AllocGlobal + Print>(rt: &R, line: &LonelyLine) -> Result<(), Failure<'static>> {
+fn print_line<R: AllocGlobal + Print>(
+    rt: &R,
+    shown: Shown,
+    line: &LonelyLine,
+) -> Result<(), Failure<'static>> {
     let text = format!(in rt.alloc(); "{line}")?;
-    print_text(rt, text.as_bytes())
+    print_shown(rt, shown, text.as_bytes())
 }

@@ -9,7 +9,7 @@ use compare_segments::{PlaceReading, SegmentCounts, SegmentRows};
 use frame_view::Vid;
 use overlay_config::settings_of;
 use program_faults::Failure;
-use program_files::read_file;
+use program_files::{Shown, read_file};
 use record_match::{Onlooker, Seen};
 use std::alloc::AllocError;
 use std::rt::Files;
@@ -75,10 +75,14 @@ impl Segments {
     }
 
     /// Prints the counts of each segment that has any record, and of the records of none.
-    pub(crate) fn print<R: AllocGlobal + Print>(&self, rt: &R) -> Result<(), Failure<'static>> {
+    pub(crate) fn print<R: AllocGlobal + Print>(
+        &self,
+        rt: &R,
+        shown: Shown,
+    ) -> Result<(), Failure<'static>> {
         match &self.counts {
             None => Ok(()),
-            Some(counts) => print_rows(rt, &counts.rows),
+            Some(counts) => print_rows(rt, shown, &counts.rows),
         }
     }
 }
@@ -115,16 +119,21 @@ fn reading_at(tap: Tap, manner: &Manner) -> PlaceReading {
 }
 
 /// Prints the rows that count any record, rising by VID, and that of no segment as the last.
-fn print_rows<R: AllocGlobal + Print>(rt: &R, rows: &SegmentRows) -> Result<(), Failure<'static>> {
+fn print_rows<R: AllocGlobal + Print>(
+    rt: &R,
+    shown: Shown,
+    rows: &SegmentRows,
+) -> Result<(), Failure<'static>> {
     for vid in 1..VIDS_END {
-        print_row(rt, Scope::Segment(vid), rows, Vid::new(vid))?;
+        print_row(rt, shown, Scope::Segment(vid), rows, Vid::new(vid))?;
     }
-    print_row(rt, Scope::NoSegment, rows, None)
+    print_row(rt, shown, Scope::NoSegment, rows, None)
 }
 
 /// Prints a row, where it counts any record.
 fn print_row<R: AllocGlobal + Print>(
     rt: &R,
+    shown: Shown,
     scope: Scope,
     rows: &SegmentRows,
     segment: Option<Vid>,
@@ -133,6 +142,6 @@ fn print_row<R: AllocGlobal + Print>(
     if counts.is_none() {
         Ok(())
     } else {
-        print_lines(rt, scope, counts)
+        print_lines(rt, shown, scope, counts)
     }
 }

@@ -5,7 +5,7 @@ ghost use Rattle.tep_program.specs.Status.{is_table_name};
 use compare_lines::{DelayLines, LengthLine};
 use compare_tables::{DelayTable, LengthRow, LengthTable};
 use program_faults::Failure;
-use program_files::print_text;
+use program_files::{Shown, print_shown};
 use record_match::{Clock, Onlooker, Seen};
 use std::alloc::{AllocError, Global};
 use timeline::Tap;
@@ -68,12 +68,13 @@ impl Table {
     pub(crate) fn print<R: AllocGlobal + Print>(
         &self,
         rt: &R,
+        shown: Shown,
         at: Option<Tap>,
     ) -> Result<(), Failure<'static>> {
         match self {
             Table::None => Ok(()),
-            Table::Length(lengths) => print_lengths(rt, at, lengths.rows()),
-            Table::Delay(delays, ahead) => print_delays(rt, at, delays, *ahead),
+            Table::Length(lengths) => print_lengths(rt, shown, at, lengths.rows()),
+            Table::Delay(delays, ahead) => print_delays(rt, shown, at, delays, *ahead),
         }
     }
 }
@@ -105,12 +106,13 @@ impl Onlooker for Table {
 /// Prints the rows of the lengths that occur.
 fn print_lengths<R: AllocGlobal + Print>(
     rt: &R,
+    shown: Shown,
     at: Option<Tap>,
     rows: &[LengthRow],
 ) -> Result<(), Failure<'static>> {
     for (length, row) in rows.iter().enumerate() {
         if !row.is_none() {
-            print_length(rt, at, length, *row)?;
+            print_length(rt, shown, at, length, *row)?;
         }
     }
     Ok(())
@@ -119,18 +121,20 @@ fn print_lengths<R: AllocGlobal + Print>(
 /// Prints the row of a length.
 fn print_length<R: AllocGlobal + Print>(
     rt: &R,
+    shown: Shown,
     at: Option<Tap>,
     length: usize,
     row: LengthRow,
 ) -> Result<(), Failure<'static>> {
     let line = LengthLine { at, length, row };
     let text = format!(in rt.alloc(); "{line}")?;
-    print_text(rt, text.as_bytes())
+    print_shown(rt, shown, text.as_bytes())
 }
 
 /// Prints what is told of delays.
 fn print_delays<R: AllocGlobal + Print>(
     rt: &R,
+    shown: Shown,
     at: Option<Tap>,
     delays: &DelayTable,
     ahead: u64,
@@ -141,5 +145,5 @@ fn print_delays<R: AllocGlobal + Print>(
         summary: delays.summary(),
     };
     let text = format!(in rt.alloc(); "{lines}")?;
-    print_text(rt, text.as_bytes())
+    print_shown(rt, shown, text.as_bytes())
 }

@@ -3,23 +3,28 @@ ghost use Rattle.std.specs.Prelude.{◌≡◌, [], Ok, IfSome};
 ghost use Rattle.overlay_config.specs.Change.{IsRising, changes_in};
 ghost use Rattle.overlay_settings.specs.Rules.{EachBehind};
 
-use crate::directions::{sieve_of, tell_left_out};
+use crate::directions::{LeavesOut, sieve_of, tell_left_out};
 use crate::nobody::Nobody;
+use crate::objects_file::{ObjectsFile, RunObjects, finish_objects, leave_objects, objects_of_run};
 use crate::outbound::tell_outbound;
+use crate::progress::progress_of;
+use crate::told_texts::{Counted, print_told, tell_all};
+use decision_objects::Beside as BesideObjects;
 use overlay_config::TimedChange;
-use program_faults::{Failure, OutputFile};
-use program_files::{FailedOutputs, Names, leave_text, print_text};
+use program_faults::Failure;
+use program_files::{Destination, FailedOutputs, Names};
 use run_counts::RunCounts;
+use run_progress::{Beside as BesideProgress, Progress, Screen};
 use run_reports::{Onlooker, Reports};
 use runs_on_files::{Ran, Scope, Texts, run_on_files, run_part, run_unwritten};
 use segment_set::SegmentSet;
 use std::alloc::{AllocError, Global};
-use std::io::Input;
+use std::io::{Input, Write};
 use std::rt::Files;
+use std::time::Clock;
 use stream_run::{Sieve, TakesAll, Unwatched, Watch};
 use talkers::{Beside as BesideTalkers, Talkers};
 use text_calls::segments_of;
-use timeline::Tap;
 use tunnel_traffic::{Beside, TunnelTraffic};
 
 /// What is asked for of a run.
@@ -39,6 +44,10 @@ pub struct Asked<'n, 'a> {
     pub segments: Option<&'a str>,
     /// How long behind its frame what the switch sent may come, in nanoseconds, where that is to be left out.
     pub within: Option<u64>,
+    /// Whether all is told as JSON, too.
+    pub json: bool,
+    /// Whether no progress is shown.
+    pub quiet: bool,
 }
 
 impl Asked<'_, '_> {
@@ -52,8 +61,8 @@ impl Asked<'_, '_> {
     }
 }
 
-/// Runs on captures, and prints what is asked for besides.
-pub fn run_and_tell<'a, R: Files + Input + AllocGlobal + Print + Eprint>(
+/// Runs on captures, and prints what is asked for besides. Where standard error is a terminal, it shows how far the run is.
+pub fn run_and_tell<'a, R: Files + Input + AllocGlobal + Print + Eprint + Clock + Screen>(
     rt: &R,
     names: Names<'_, 'a>,
     folder: Option<&str>,
@@ -62,58 +71,140 @@ pub fn run_and_tell<'a, R: Files + Input + AllocGlobal + Print + Eprint>(
 ) -> Result<(), Failure<'a>> {
     let texts = Texts::read(rt, names)?;
     let segments = segments_of(asked.segments)?;
+    let progress = progress_of(rt, names, asked.quiet);
     // A fault stands on the first line of standard error, so that what was left out is told behind a run that is done alone.
     let Some(sieve) = sieve_of(rt.alloc(), texts.settings.as_slice(), asked.within)? else {
-        let ran = run_taken(
-            rt,
-            names,
-            &texts,
-            folder,
-            asked,
-            &segments,
-            &mut TakesAll,
-            &mut Unwatched,
-            failed,
+        let ran = run_plain(
+            rt, names, &texts, folder, asked, &segments, progress, failed,
         )?;
         tell_outbound(rt, ran.outbound.as_slice());
         return Ok(());
     };
-    let mut sieve = sieve;
-    let ran = run_taken(
-        rt,
-        names,
-        &texts,
-        folder,
-        asked,
-        &segments,
-        &mut sieve,
-        &mut Nobody,
-        failed,
+    let (ran, sieve) = run_taken(
+        rt, names, &texts, folder, asked, &segments, sieve, Nobody, progress, failed,
     )?;
     tell_outbound(rt, ran.outbound.as_slice());
     tell_left_out(rt, &sieve, names.ports.len());
     Ok(())
 }
 
-/// Runs on what a sieve takes in of captures, and prints what is asked for besides. Who asks for nothing pays nothing for it: then
-/// nobody looks on.
-fn run_taken<'a, R: Files + Input + AllocGlobal + Print + Eprint, S: Sieve, T: Watch>(
-    rt: &R,
+/// Runs on all of captures, and prints what is asked for besides. Who asks for nothing, and sees no progress, pays nothing for it:
+/// then nobody looks on.
+fn run_plain<'r, 'a, R: Files + Input + AllocGlobal + Print + Eprint + Clock>(
+    rt: &'r R,
     names: Names<'_, 'a>,
     texts: &Texts,
     folder: Option<&str>,
     asked: Asked<'_, 'a>,
     segments: &SegmentSet,
-    sieve: &mut S,
-    nobody: &mut T,
+    progress: Option<Progress<'r, R>>,
     failed: &mut FailedOutputs,
 ) -> Result<Ran<R::File>, Failure<'a>> {
-    if !asked.is_nothing() {
-        return run_watched(rt, names, texts, folder, asked, segments, sieve, failed);
+    if asked.is_nothing() && !asked.json && progress.is_none() {
+        let run = run_asked(
+            rt,
+            names,
+            texts,
+            None,
+            folder,
+            asked,
+            segments,
+            &mut TakesAll,
+            &mut Unwatched,
+            failed,
+        );
+        return finished(run);
     }
-    match run_asked(
-        rt, names, texts, None, folder, asked, segments, sieve, nobody, failed,
-    ) {
+    let (ran, _) = run_taken(
+        rt, names, texts, folder, asked, segments, TakesAll, Unwatched, progress, failed,
+    )?;
+    Ok(ran)
+}
+
+/// Runs on what a sieve takes in of captures, and prints what is asked for besides. The sieve comes back.
+fn run_taken<
+    'r,
+    'a,
+    R: Files + Input + AllocGlobal + Print + Eprint + Clock,
+    S: Sieve + LeavesOut + Drop,
+    T: Watch + Drop,
+>(
+    rt: &'r R,
+    names: Names<'_, 'a>,
+    texts: &Texts,
+    folder: Option<&str>,
+    asked: Asked<'_, 'a>,
+    segments: &SegmentSet,
+    sieve: S,
+    nobody: T,
+    progress: Option<Progress<'r, R>>,
+    failed: &mut FailedOutputs,
+) -> Result<(Ran<R::File>, S), Failure<'a>> {
+    let changes = texts.changes_read(rt.alloc())?;
+    let told = match &changes {
+        Some(changes) => Some(changes.as_slice()),
+        None => None,
+    };
+    if asked.is_nothing() {
+        return run_shown(
+            rt, names, texts, told, folder, asked, segments, sieve, nobody, progress, failed,
+        );
+    }
+    run_watched(
+        rt, names, texts, told, folder, asked, segments, sieve, progress, failed,
+    )
+}
+
+/// The same where nothing is told behind it: its objects are written, and how far it is is shown.
+fn run_shown<
+    'r,
+    't,
+    'a,
+    R: Files + Input + AllocGlobal + Print + Eprint + Clock,
+    S: Sieve + LeavesOut + Drop,
+    T: Watch + Drop,
+>(
+    rt: &'r R,
+    names: Names<'_, 'a>,
+    texts: &Texts,
+    told: Option<&'t [TimedChange]>,
+    folder: Option<&str>,
+    asked: Asked<'_, 'a>,
+    segments: &SegmentSet,
+    sieve: S,
+    nobody: T,
+    progress: Option<Progress<'r, R>>,
+    failed: &mut FailedOutputs,
+) -> Result<(Ran<R::File>, S), Failure<'a>>
+    requires told { IfSome told (λ t. changes_in texts.now.changes.items ≡ Ok t.now) }
+    requires rising { IfSome told (λ t. EachBehind IsRising [] t.now) }
+{
+    let objects = objects_of_run(rt, folder, asked.json, told.unwrap_or(&[]))?;
+    let mut shown = shown_to(nobody, objects, progress);
+    let mut sieve = sieve;
+    let run = run_asked(
+        rt, names, texts, told, folder, asked, segments, &mut sieve, &mut shown, failed,
+    );
+    shown.finish();
+    let BesideProgress { watch, .. } = shown;
+    let BesideObjects { objects, .. } = watch;
+    match run {
+        Ok(ran) => {
+            let written = finish_objects(objects, &sieve, ran.cut.as_slice());
+            let ran = finished(Ok(ran))?;
+            written?;
+            Ok((ran, sieve))
+        }
+        Err(failure) => {
+            leave_objects(objects);
+            Err(failure)
+        }
+    }
+}
+
+/// A run that is done, and of a part what it was made from is written.
+fn finished<'a, F: Write + Drop>(run: Result<Ran<F>, Failure<'a>>) -> Result<Ran<F>, Failure<'a>> {
+    match run {
         Ok(ran) => {
             let mut ran = ran;
             match ran.finish() {
@@ -127,28 +218,37 @@ fn run_taken<'a, R: Files + Input + AllocGlobal + Print + Eprint, S: Sieve, T: W
 
 /// The same where something is asked for: someone looks on, whatever it is, so that runs which nobody looks on at have their
 /// steps for themselves.
-fn run_watched<'a, R: Files + Input + AllocGlobal + Print + Eprint, S: Sieve>(
-    rt: &R,
+fn run_watched<
+    'r,
+    't,
+    'a,
+    R: Files + Input + AllocGlobal + Print + Eprint + Clock,
+    S: Sieve + LeavesOut + Drop,
+>(
+    rt: &'r R,
     names: Names<'_, 'a>,
     texts: &Texts,
+    told: Option<&'t [TimedChange]>,
     folder: Option<&str>,
     asked: Asked<'_, 'a>,
     segments: &SegmentSet,
-    sieve: &mut S,
+    sieve: S,
+    progress: Option<Progress<'r, R>>,
     failed: &mut FailedOutputs,
-) -> Result<Ran<R::File>, Failure<'a>> {
-    let changes = texts.changes_read(rt.alloc())?;
-    let told = match &changes {
-        Some(changes) => Some(changes.as_slice()),
-        None => None,
-    };
-    let mut beside = BesideTalkers {
+) -> Result<(Ran<R::File>, S), Failure<'a>>
+    requires told { IfSome told (λ t. changes_in texts.now.changes.items ≡ Ok t.now) }
+    requires rising { IfSome told (λ t. EachBehind IsRising [] t.now) }
+{
+    let objects = objects_of_run(rt, folder, asked.json, told.unwrap_or(&[]))?;
+    let watch = BesideTalkers {
         watch: Beside {
             watch: onlooker_of(rt.alloc(), asked, told.unwrap_or(&[]), segments)?,
             tunnels: tunnels_of(rt.alloc(), asked)?,
         },
         talkers: talkers_of(rt.alloc(), asked)?,
     };
+    let mut beside = shown_to(watch, objects, progress);
+    let mut sieve = sieve;
     let run = run_asked(
         rt,
         names,
@@ -157,11 +257,14 @@ fn run_watched<'a, R: Files + Input + AllocGlobal + Print + Eprint, S: Sieve>(
         folder,
         asked,
         segments,
-        sieve,
+        &mut sieve,
         &mut beside,
         failed,
     );
-    let BesideTalkers { watch, talkers } = beside;
+    beside.finish();
+    let BesideProgress { watch, .. } = beside;
+    let BesideObjects { watch, objects } = watch;
+    let BesideTalkers { watch, talkers } = watch;
     let Beside { watch, tunnels } = watch;
     let Onlooker { reports, counts } = watch;
     let counted = Counted {
@@ -172,17 +275,32 @@ fn run_watched<'a, R: Files + Input + AllocGlobal + Print + Eprint, S: Sieve>(
     match run {
         Ok(ran) => {
             let mut ran = ran;
+            let written = finish_objects(objects, &sieve, ran.cut.as_slice());
             let found = tell_missing(rt, asked.why, &reports);
-            match tell_all(rt, folder, asked, reports, counted, &mut ran).and(found) {
-                Ok(()) => Ok(ran),
+            let told = tell_all(rt, folder, asked, reports, counted, &sieve, &mut ran);
+            match written.and(told).and(found) {
+                Ok(()) => Ok((ran, sieve)),
                 Err(failure) => Err(failure),
             }
         }
         Err(failure) => {
+            leave_objects(objects);
             // What was told stands, wherever the run stopped.
-            let _ = print_told(rt, reports);
+            let _ = print_told(rt, asked.json, reports);
             Err(failure)
         }
+    }
+}
+
+/// Whoever looks on, beside the objects and the progress of a run.
+fn shown_to<'r, 'c, R: Files, T>(
+    watch: T,
+    objects: Option<RunObjects<'r, 'c, R>>,
+    progress: Option<Progress<'r, R>>,
+) -> BesideProgress<'r, BesideObjects<'c, T, ObjectsFile<'r, R>>, R> {
+    BesideProgress {
+        watch: BesideObjects { watch, objects },
+        progress,
     }
 }
 
@@ -246,14 +364,20 @@ fn run_asked<'a, R: Files + Input + AllocGlobal, S: Sieve, T: Watch>(
     requires told { IfSome told (λ t. changes_in texts.now.changes.items ≡ Ok t.now) }
     requires rising { IfSome told (λ t. EachBehind IsRising [] t.now) }
 {
-    match (folder, asked.segments) {
-        (None, _) => run_unwritten(rt, names, texts, told, segments, sieve, watch),
-        (Some(folder), Some(list)) => run_part(
+    let Some(folder) = folder else {
+        return run_unwritten(rt, names, texts, told, segments, sieve, watch);
+    };
+    let to = Destination {
+        name: folder,
+        objects: asked.json,
+    };
+    match asked.segments {
+        Some(list) => run_part(
             rt,
             names,
             texts,
             told,
-            folder,
+            to,
             list,
             segments,
             asked.within,
@@ -261,13 +385,13 @@ fn run_asked<'a, R: Files + Input + AllocGlobal, S: Sieve, T: Watch>(
             watch,
             failed,
         ),
-        (Some(_), None) => {
+        None => {
             match run_on_files(
                 rt,
                 names,
                 texts,
                 told,
-                folder,
+                Some(to),
                 Scope::Whole,
                 sieve,
                 watch,
@@ -296,94 +420,4 @@ fn tell_missing<'a>(
         }
     }
     missing
-}
-
-/// Whoever counted while a run went, as far as that is asked for.
-#[derive(Drop)]
-struct Counted {
-    counts: Option<RunCounts>,
-    tunnels: Option<TunnelTraffic>,
-    talkers: Option<Talkers>,
-}
-
-/// Prints what a run told and counted. A part leaves its tables at the end and its counts in its folder before, and last what
-/// it was made from.
-fn tell_all<R: Files + AllocGlobal + Print>(
-    rt: &R,
-    folder: Option<&str>,
-    asked: Asked<'_, '_>,
-    reports: Reports<'_, '_>,
-    counted: Counted,
-    ran: &mut Ran<R::File>,
-) -> Result<(), Failure<'static>> {
-    let Ok((told, tables)) = reports.into_texts() else {
-        return Err(Failure::from(AllocError));
-    };
-    let Counted {
-        counts,
-        tunnels,
-        talkers,
-    } = counted;
-    let summary = summary_of(rt.alloc(), counts, tunnels, ran.cut.as_slice())?;
-    let talks = talks_text(rt.alloc(), talkers)?;
-    let left = match leave_texts(rt, folder, asked, tables.as_slice(), summary.as_slice()) {
-        Ok(()) => ran.finish(),
-        Err(failure) => Err(failure),
-    };
-    left.and(print_text(rt, told.as_slice()))
-        .and(print_text(rt, tables.as_slice()))
-        .and(print_text(rt, summary.as_slice()))
-        .and(print_text(rt, talks.as_slice()))
-}
-
-/// Who talked to whom, where that is asked for.
-fn talks_text(alloc: Global, talkers: Option<Talkers>) -> Result<Vec<u8>, AllocError> {
-    match talkers {
-        Some(talkers) => talkers.text(alloc),
-        None => Ok(Vec::new(alloc)),
-    }
-}
-
-/// Writes the tables and the counts of a part into its folder, where it has one, as far as they are asked for.
-fn leave_texts<R: Files + AllocGlobal>(
-    rt: &R,
-    folder: Option<&str>,
-    asked: Asked<'_, '_>,
-    tables: &[u8],
-    summary: &[u8],
-) -> Result<(), Failure<'static>> {
-    let (Some(folder), Some(_)) = (folder, asked.segments) else {
-        return Ok(());
-    };
-    if asked.tables {
-        leave_text(rt, folder, OutputFile::Tables, tables)?;
-    }
-    if asked.summary {
-        leave_text(rt, folder, OutputFile::Summary, summary)?;
-    }
-    Ok(())
-}
-
-/// What a run counted, and what passed by tunnels, where that is asked for.
-fn summary_of(
-    alloc: Global,
-    counts: Option<RunCounts>,
-    tunnels: Option<TunnelTraffic>,
-    cut: &[Tap],
-) -> Result<Vec<u8>, AllocError> {
-    let (Some(counts), Some(tunnels)) = (counts, tunnels) else {
-        return Ok(Vec::new(alloc));
-    };
-    let mut text = counts.into_text(cut)?;
-    let passed = tunnels.text(alloc)?;
-    text.extend_from_slice(passed.as_slice())?;
-    Ok(text)
-}
-
-/// Prints what a run told.
-fn print_told<R: Print>(rt: &R, reports: Reports<'_, '_>) -> Result<(), Failure<'static>> {
-    let Ok((told, tables)) = reports.into_texts() else {
-        return Err(Failure::from(AllocError));
-    };
-    print_text(rt, told.as_slice()).and(print_text(rt, tables.as_slice()))
 }

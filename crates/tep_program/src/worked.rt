@@ -10,7 +10,7 @@ use carried_key::{Manner, Sameness};
 use command_line::NO_CAPTURE;
 use compare_lines::{Counts, Scope};
 use program_faults::{Failure, OutputFile, WorkedFailure};
-use program_files::{open_seen, open_written, path_of, print_text};
+use program_files::{Shown, open_seen, open_written, path_of, print_shown};
 use record_match::Clock;
 use std::alloc::AllocError;
 use std::fs;
@@ -42,6 +42,8 @@ pub struct Worked<'n, 'a> {
     pub by: Option<&'a str>,
     /// Whether frames to the addresses that no bridge forwards are left aside.
     pub ignores: bool,
+    /// How it is printed.
+    pub shown: Shown,
 }
 
 /// Compares each capture that a run wrote with what was captured at its place, and prints the counts of each place, of each segment
@@ -55,7 +57,13 @@ pub fn compare_worked<'a, R: Files + Input + AllocGlobal + Print>(
     let clock = clock_of(asked.within, asked.shift)?;
     let mut segments = Segments::open(rt, asked.settings)?;
     let tunnels = segments.tunnels()?;
-    let told = Told::of(asked.lists, asked.by, clock, asked.shift.is_some());
+    let told = Told::of(
+        asked.shown,
+        asked.lists,
+        asked.by,
+        clock,
+        asked.shift.is_some(),
+    );
     check_folder(rt, asked)?;
     check_twice(asked)?;
     let at_underlay = Manner {
@@ -77,8 +85,8 @@ pub fn compare_worked<'a, R: Files + Input + AllocGlobal + Print>(
         told,
         &mut segments,
     )?);
-    segments.print(rt)?;
-    print_lines(rt, Scope::All, all)?;
+    segments.print(rt, asked.shown)?;
+    print_lines(rt, asked.shown, Scope::All, all)?;
     if all.is_same() {
         Ok(())
     } else {
@@ -137,7 +145,7 @@ fn compare_place<'a, R: Files + Input + AllocGlobal + Print>(
     requires received { clock.received_delay ≤ 2000000000000000000 }
 {
     if place.seen == NO_CAPTURE {
-        print_none(rt, place.tap)?;
+        print_none(rt, told.shown, place.tap)?;
         return Ok(Counts::none());
     }
     let pairing = Pairing {
@@ -216,7 +224,11 @@ fn count_of(names: &[&str], name: &str) -> usize {
 }
 
 /// Prints that there is no capture of a place.
-fn print_none<R: AllocGlobal + Print>(rt: &R, tap: Tap) -> Result<(), Failure<'static>> {
+fn print_none<R: AllocGlobal + Print>(
+    rt: &R,
+    shown: Shown,
+    tap: Tap,
+) -> Result<(), Failure<'static>> {
     let text = format!(in rt.alloc(); "{tap}: no capture\n")?;
-    print_text(rt, text.as_bytes())
+    print_shown(rt, shown, text.as_bytes())
 }

@@ -12,7 +12,7 @@ fn told<'a>(alloc: Global, words: &'a [&'a str]) -> Result<String, Fail> {
 }
 
 /// Words, and the line that they ask for.
-const LINES: [(&[&str], &str); 13] = [
+const LINES: [(&[&str], &str); 14] = [
     (&["tep"], "Sample"),
     (
         &[
@@ -26,19 +26,23 @@ const LINES: [(&[&str], &str); 13] = [
             "p1",
             "p2",
         ],
-        "Run { settings: \"s\", changes: None, underlay: \"u\", out: Some(\"d\"), ports: [\"p1\", \"p2\"], tables: false, tables_at: None, why: [], summary: false, talkers: false, segments: None, digests: None, both: false, within: None }",
+        "Run { settings: \"s\", changes: None, underlay: \"u\", out: Some(\"d\"), ports: [\"p1\", \"p2\"], tables: false, \
+        tables_at: None, why: [], summary: false, talkers: false, segments: None, digests: None, both: false, \
+        within: None, json: false, quiet: false }",
     ),
     (
         &["tep", "run", "-s=s", "-u=u", "--summary", "p1"],
-        "Run { settings: \"s\", changes: None, underlay: \"u\", out: None, ports: [\"p1\"], tables: false, tables_at: None, why: [], summary: true, talkers: false, segments: None, digests: None, both: false, within: None }",
+        "Run { settings: \"s\", changes: None, underlay: \"u\", out: None, ports: [\"p1\"], tables: false, tables_at: None, \
+        why: [], summary: true, talkers: false, segments: None, digests: None, both: false, \
+        within: None, json: false, quiet: false }",
     ),
     (
         &["tep", "check", "--changes", "c", "--settings", "s"],
-        "Check { settings: \"s\", changes: Some(\"c\"), underlay: None, ports: [] }",
+        "Check { settings: \"s\", changes: Some(\"c\"), underlay: None, ports: [], json: false }",
     ),
     (
         &["tep", "explain", "--settings", "s", "c"],
-        "Explain { settings: \"s\", depth: 4, values: false, capture: \"c\" }",
+        "Explain { settings: \"s\", depth: 4, values: false, capture: \"c\", json: false }",
     ),
     (
         &[
@@ -50,7 +54,7 @@ const LINES: [(&[&str], &str); 13] = [
             "--settings=s",
             "--values",
         ],
-        "Explain { settings: \"s\", depth: 2, values: true, capture: \"c\" }",
+        "Explain { settings: \"s\", depth: 2, values: true, capture: \"c\", json: false }",
     ),
     (
         &[
@@ -74,15 +78,21 @@ const LINES: [(&[&str], &str); 13] = [
             "--segments=1-9,none",
             "--digests=d",
         ],
-        "Run { settings: \"s\", changes: Some(\"c\"), underlay: \"u\", out: Some(\"d\"), ports: [\"-\", \"p2\"], tables: true, tables_at: Some(7), why: [\"2\", \"u:1\"], summary: true, talkers: false, segments: Some(\"1-9,none\"), digests: Some(\"d\"), both: false, within: None }",
+        "Run { settings: \"s\", changes: Some(\"c\"), underlay: \"u\", out: Some(\"d\"), ports: [\"-\", \"p2\"], tables: true, \
+        tables_at: Some(7), why: [\"2\", \"u:1\"], summary: true, talkers: false, segments: Some(\"1-9,none\"), \
+        digests: Some(\"d\"), both: false, within: None, json: false, quiet: false }",
     ),
     (
         &["tep", "check", "-s", "-", "-c", "-", "-u", "u", "p1", "-"],
-        "Check { settings: \"-\", changes: Some(\"-\"), underlay: Some(\"u\"), ports: [\"p1\", \"-\"] }",
+        "Check { settings: \"-\", changes: Some(\"-\"), underlay: Some(\"u\"), ports: [\"p1\", \"-\"], json: false }",
     ),
     (
         &["tep", "explain", "-d", "1", "-", "-s", "s"],
-        "Explain { settings: \"s\", depth: 1, values: false, capture: \"-\" }",
+        "Explain { settings: \"s\", depth: 1, values: false, capture: \"-\", json: false }",
+    ),
+    (
+        &["tep", "report", "d", "--out", "p"],
+        "Report { folder: \"d\", page: \"p\" }",
     ),
     (
         &["tep", "migrate", "-s", "s"],
@@ -90,11 +100,19 @@ const LINES: [(&[&str], &str); 13] = [
     ),
     (
         &["tep", "merge", "a", "-o", "d", "b"],
-        "Merge { out: \"d\", parts: [\"a\", \"b\"], tables: false, summary: false }",
+        "Merge { out: \"d\", parts: [\"a\", \"b\"], tables: false, summary: false, json: false }",
     ),
     (
-        &["tep", "merge", "-od", "a", "--summary", "--tables"],
-        "Merge { out: \"d\", parts: [\"a\"], tables: true, summary: true }",
+        &[
+            "tep",
+            "merge",
+            "-od",
+            "a",
+            "--summary",
+            "--tables",
+            "--json",
+        ],
+        "Merge { out: \"d\", parts: [\"a\"], tables: true, summary: true, json: true }",
     ),
     (
         &["tep", "digest", "-uu", "p1", "-"],

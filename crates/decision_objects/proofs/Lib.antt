@@ -1,0 +1,5 @@
+pub mod Answered
+pub mod Growing
+pub mod Outcomes
+pub mod Running
+pub mod Texts

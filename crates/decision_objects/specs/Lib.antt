@@ -1,0 +1,4 @@
+pub mod Objects
+pub mod Writing
+pub mod Onlooking
+pub mod Run

@@ -1,0 +1,29 @@
+//! Decisions as JSON objects, one for each event of a run, written to an output of their own while the run goes.
+//!
+//! Use first: [`Objects`] looks on while `stream_run` runs, and writes; [`Beside`] puts it beside whoever else looks on.
+//!
+//! Specs to read, in order: `specs/Objects`, `specs/Run`, `specs/Onlooking`, `specs/Writing`.
+//!
+//! Proved: behind each event that is told, its object was written, exactly, to the output, or a part of it where the output
+//! failed at it; behind such a fault nothing more is written, and it is kept in mind. So behind a run of any events, or of a part
+//! of it, their objects were written, or a front of them (`laws::runs`). Whoever else looks on sees what it would alone.
+//!
+//! Why it is so: an object is put together in one line of 4,096 octets, straight from the decision, and what leaves is only
+//! measured. An object of more than 40 outcomes may go on in pieces, so that there is room for any number of them. No event asks
+//! for memory.
+#![tactic(auto)]
+
+mod beside;
+pub mod laws;
+mod line;
+mod object;
+mod objects;
+mod origin;
+mod outcome;
+mod output;
+mod place;
+
+pub use beside::Beside;
+pub use line::ObjectLine;
+pub use objects::Objects;
+pub use origin::Origin;

@@ -1,0 +1,166 @@
+//! An output of objects, with the line in front of it.
+//!
+//! A line that has no room for one outcome more goes on to the output before that, so that an object may have any number of them.
+ghost use Rattle.std.specs.Prelude.{◌≡◌, ◌≤◌, ◌+◌, ◌++◌, [], IsSome, IsTrue, Some, None, false, length, map};
+ghost use Rattle.std.specs.List.{list_all};
+ghost use Rattle.frame_view.specs.First.{fault_of};
+ghost use Rattle.endpoint_state.specs.Settings.{segment_at};
+ghost use Rattle.endpoint_state.specs.Step.{can_leave};
+ghost use Rattle.endpoint_core.specs.Decision.{refused_as};
+ghost use Rattle.endpoint_core.specs.Kept.{state_of};
+ghost use Rattle.endpoint_core.specs.Step.{Decided, Replied, has_two_tunnels, sent_at};
+ghost use Rattle.decision_objects.specs.Objects.{cut_object, object_text, outcomes_text, sent_object};
+ghost use Rattle.decision_objects.specs.Writing.{Grows, Tells};
+
+use crate::line::ObjectLine;
+use crate::origin::Origin;
+use endpoint_core::{Came, ChangeFault, Endpoint};
+use filter_db::Place;
+use frame_view::{Refused, Vid};
+use pcap_stream::Output;
+use std::marker::Model;
+use timeline::Cut;
+
+/// The most octets that an outcome has, with its comma, and what stands behind the last.
+const OUTCOME_AND_END: u16 = 149;
+
+/// An output of objects and the line in which they are put together, seen by contracts as what was told to the output, and the
+/// text of the line. Once a write has failed, or took none of some octets, nothing more is written.
+#[derive(Drop)]
+pub struct ObjectOutput<W: Output> {
+    output: W,
+    line: ObjectLine,
+    is_failed: bool,
+}
+
+impl<W: Output> Model for ObjectOutput<W> {
+    ghost use Rattle.decision_objects.specs.Writing.{Stage};
+
+    ghost Value = { Stage };
+
+    ghost view = { λ o. record {
+      told = record { written = W.written o.output; failures = W.failures o.output; is_failed = o.is_failed };
+      line = o.line;
+    } };
+}
+
+impl<W: Output> ObjectOutput<W> {
+    /// One that goes on where an output stands.
+    pub fn new(output: W) -> ObjectOutput<W>
+        ensures told { result.told ≡ record { written = W.written output; failures = W.failures output; is_failed = false } }
+    {
+        ObjectOutput {
+            output,
+            line: ObjectLine::new(),
+            is_failed: false,
+        }
+    }
+
+    /// Whether a write failed.
+    pub fn is_failed(&self) -> bool
+        ensures { result ≡ self.now.told.is_failed }
+    {
+        self.is_failed
+    }
+
+    /// The output.
+    pub fn into_output(self) -> W
+        ensures written { W.written result ≡ self.told.written }
+        ensures failures { W.failures result ≡ self.told.failures }
+    {
+        let ObjectOutput { output, .. } = self;
+        output
+    }
+
+    /// Writes the object of what leaves of a frame at each of these places.
+    pub fn write_sent(
+        &mut self,
+        origin: &Origin,
+        endpoint: &Endpoint,
+        came: &Came,
+        places: &[Place],
+    )
+        requires there { IsSome (segment_at (state_of endpoint.now).bridges.settings came.now.vid) }
+        requires leave { IsTrue (list_all (can_leave (state_of endpoint.now).bridges.settings came.now.vid) places.now) }
+        ensures { let S = (state_of endpoint.now).bridges.settings in
+            let outcomes = map (sent_at S came.now.vid came.now.frame) places.now in
+            Tells self.old.told self.new.told
+            (sent_object origin.now (Some came.now.vid) (has_two_tunnels S.overlay came.now.vid) outcomes) }
+    {
+        self.line.begin_sent(origin);
+        self.put_outcomes(endpoint, came, places);
+        self.line.end_sent(came.segment(), origin.source);
+        self.hand_on();
+    }
+
+    /// Writes the object of a frame or a packet that is dropped.
+    pub fn write_drop(&mut self, origin: &Origin, refused: Refused)
+        ensures { Tells self.old.told self.new.told (object_text origin.now None (Decided (refused_as refused))) }
+    {
+        self.line.write_drop(origin, refused);
+        self.hand_on();
+    }
+
+    /// Writes the object of a change, with the segment that it names and what it was answered.
+    pub fn write_reply(
+        &mut self,
+        origin: &Origin,
+        named: Option<Vid>,
+        reply: Result<(), ChangeFault>,
+    )
+        ensures { Tells self.old.told self.new.told (object_text origin.now named (Replied (fault_of reply))) }
+    {
+        self.line.write_reply(origin, named, reply);
+        self.hand_on();
+    }
+
+    /// Writes the object of a capture that ends with a cut rest.
+    pub fn write_cut(&mut self, cut: &Cut)
+        ensures { Tells self.old.told self.new.told (cut_object cut.now) }
+    {
+        self.line.write_cut(cut);
+        self.hand_on();
+    }
+
+    /// Puts what comes of each place, with a comma between two.
+    fn put_outcomes(&mut self, endpoint: &Endpoint, came: &Came, places: &[Place])
+        requires there { IsSome (segment_at (state_of endpoint.now).bridges.settings came.now.vid) }
+        requires leave { IsTrue (list_all (can_leave (state_of endpoint.now).bridges.settings came.now.vid) places.now) }
+        requires room { length self.old.line + 51 ≤ 4096 }
+        ensures grows { let S = (state_of endpoint.now).bridges.settings in
+            let outcomes = map (sent_at S came.now.vid came.now.frame) places.now in
+            Grows self.old self.new (outcomes_text (has_two_tunnels S.overlay came.now.vid) outcomes) }
+        ensures room { length self.new.line + 51 ≤ 4096 }
+    {
+        let two_tunnels = endpoint.has_two_tunnels(came);
+        let mut is_first = true;
+        for place in places {
+            self.make_room();
+            self.line
+                .put_sized(endpoint, came, is_first, two_tunnels, *place);
+            is_first = false;
+        }
+    }
+
+    /// Makes room in the line for one outcome and for the end of an object.
+    #[inline]
+    fn make_room(&mut self)
+        ensures grows { Grows self.old self.new [] }
+        ensures room { length self.new.line + 149 ≤ 4096 }
+    {
+        if !self.line.has_room(OUTCOME_AND_END) {
+            self.hand_on();
+        }
+    }
+
+    /// Hands the text of the line on to the output, and empties the line.
+    fn hand_on(&mut self)
+        ensures told { Tells self.old.told self.new.told self.old.line }
+        ensures line { self.new.line ≡ [] }
+    {
+        if !self.is_failed {
+            self.is_failed = self.output.write_all(self.line.text()).is_err();
+        }
+        self.line.clear();
+    }
+}

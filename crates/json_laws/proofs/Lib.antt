@@ -1,0 +1,2 @@
+pub mod SameLines
+pub mod SameTexts

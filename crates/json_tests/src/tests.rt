@@ -1,0 +1,2 @@
+mod forms;
+mod object_tests;

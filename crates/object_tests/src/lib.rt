@@ -1,0 +1,10 @@
+//! Tests of decisions as JSON objects, over the public names of `decision_objects`. There is nothing here but tests, and nothing
+//! stands on this crate.
+//!
+//! Read first: `object_tests`, an object of each kind, and what an output that fails is left with.
+//!
+//! What is expected was written by hand, never taken from a run.
+#![tactic(auto)]
+
+#[cfg(test)]
+mod tests;

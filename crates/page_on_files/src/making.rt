@@ -1,0 +1,110 @@
+//! The page.
+use crate::lines::{count_lines, moments_of};
+use pcap_stream::{BlockOutput, StdOutput};
+use program_faults::{Failure, OutputFile, SystemFault, UnwrittenFile, WorkedFailure, read_text};
+use program_files::{FoundFiles, OutputDevice, open_part_file, path_of};
+use report_counts::ReportCounts;
+use report_page::write_page;
+use std::alloc::{AllocError, Global};
+use std::fs::{self, OpenOptions};
+use std::rt::Files;
+
+/// How many octets are written at once.
+const BLOCK: usize = 65_536;
+
+/// How many reads are made of a text, at most.
+const TEXT_READS: u64 = u64::MAX;
+
+/// What a run printed, where that was kept in its folder.
+const KEPT: [OutputFile; 2] = [OutputFile::Summary, OutputFile::Tables];
+
+/// Makes a page of what a run wrote into a folder. Where the folder has no decision lines, one of them is none, or the page is one
+/// of the files that are read, nothing is made or written.
+pub fn make_page<'a, R: Files + AllocGlobal>(
+    rt: &R,
+    folder: &'a str,
+    page: &str,
+) -> Result<(), Failure<'a>> {
+    let lines = path_of(rt.alloc(), folder, OutputFile::Decisions)?;
+    if fs::metadata(rt, lines.as_path()).is_err() {
+        let lacks = WorkedFailure::Lacks(OutputFile::Decisions);
+        return Err(Failure::Worked(folder, lacks));
+    }
+    spare(rt, folder, page)?;
+    let (first, last) = moments_of(rt, folder)?;
+    let mut counts = ReportCounts::new(rt.alloc(), first, last)?;
+    count_lines(rt, folder, &mut counts)?;
+    let told = kept_texts(rt, folder)?;
+    match write(rt, &counts, folder, told.as_slice(), page) {
+        Ok(()) => Ok(()),
+        Err(failure) => Err(failure),
+    }
+}
+
+/// Refuses a page that is one of the files which are read.
+fn spare<R: Files + AllocGlobal>(rt: &R, folder: &str, page: &str) -> Result<(), Failure<'static>> {
+    let mut inputs = FoundFiles::none(rt.alloc());
+    let lines = path_of(rt.alloc(), folder, OutputFile::Decisions)?;
+    inputs.note(rt, lines.as_path())?;
+    for output in KEPT {
+        let path = path_of(rt.alloc(), folder, output)?;
+        inputs.note(rt, path.as_path())?;
+    }
+    match fs::metadata(rt, page) {
+        Ok(found) if inputs.have(&found) => Err(unwritten(rt.alloc(), page, None)),
+        _ => Ok(()),
+    }
+}
+
+/// What was kept of the texts that a run printed, one behind another.
+fn kept_texts<'a, R: Files + AllocGlobal>(rt: &R, folder: &'a str) -> Result<Vec<u8>, Failure<'a>> {
+    let mut texts = Vec::new(rt.alloc());
+    for output in KEPT {
+        let path = path_of(rt.alloc(), folder, output)?;
+        if fs::metadata(rt, path.as_path()).is_err() {
+            continue;
+        }
+        let mut input = open_part_file(rt, folder, output)?;
+        match read_text(rt.alloc(), &mut input, TEXT_READS) {
+            Ok(text) => texts.extend_from_slice(text.as_slice())?,
+            Err(fault) => return Err(Failure::reading(folder, fault)),
+        }
+    }
+    Ok(texts)
+}
+
+/// Writes the page.
+fn write<R: Files + AllocGlobal>(
+    rt: &R,
+    counts: &ReportCounts,
+    folder: &str,
+    told: &[u8],
+    page: &str,
+) -> Result<(), Failure<'static>> {
+    let opened = OpenOptions::new()
+        .write(true)
+        .create(true)
+        .truncate(true)
+        .open(rt, page);
+    let file = match opened {
+        Ok(file) => file,
+        Err(error) => return Err(unwritten(rt.alloc(), page, SystemFault::of(&error))),
+    };
+    let device = StdOutput::new(OutputDevice::new(file));
+    let mut output = BlockOutput::new(rt.alloc(), device, BLOCK)?;
+    let is_written = write_page(counts, folder, told, &mut output).is_ok();
+    let is_handed_on = output.finish().is_ok();
+    if is_written && is_handed_on {
+        return Ok(());
+    }
+    let fault = output.output().writer().fault();
+    Err(unwritten(rt.alloc(), page, fault))
+}
+
+/// That the page couldn't be written.
+fn unwritten(alloc: Global, page: &str, fault: Option<SystemFault>) -> Failure<'static> {
+    match String::from_str(alloc, page) {
+        Ok(path) => Failure::Unwritten(UnwrittenFile { path, fault }),
+        Err(error) => Failure::from(error),
+    }
+}

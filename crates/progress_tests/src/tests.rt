@@ -1,0 +1,2 @@
+mod line_tests;
+mod screen_tests;

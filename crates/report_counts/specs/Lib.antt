@@ -1,0 +1,9 @@
+pub mod Tables
+pub mod Outcomes
+pub mod Lines
+pub mod Places
+pub mod Outlets
+pub mod Rows
+pub mod Drops
+pub mod Counting
+pub mod ReadBack

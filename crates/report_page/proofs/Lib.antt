@@ -1,0 +1,6 @@
+pub mod Written
+pub mod Numbers
+pub mod Dates
+pub mod FirstLine
+pub mod Rows
+pub mod Markup

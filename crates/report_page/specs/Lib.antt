@@ -1,0 +1,17 @@
+pub mod Texts
+pub mod Escaped
+pub mod Moment
+pub mod Written
+pub mod Path
+pub mod Series
+pub mod Picture
+pub mod Facts
+pub mod OverTime
+pub mod Places
+pub mod Segments
+pub mod Drops
+pub mod FirstDrops
+pub mod Matrix
+pub mod Lines
+pub mod Told
+pub mod Page

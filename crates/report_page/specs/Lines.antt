@@ -1,0 +1,17 @@
+-- The lines of a text, each ended by LF, but the last maybe by the end of the text. It states no standard.
+use Rattle.std.specs.Prelude.{ℕ, ◌==◌, if◌then◌else◌, List, [], ◌∷◌}
+use Rattle.std.specs.List.{onto_first}
+
+-- the first line of a text, and what stands behind its end
+abbrev pub first_line : List ℕ → List ℕ
+first_line [] = []
+first_line (c ∷ cs) = if c == 10 then [] else c ∷ first_line cs
+
+abbrev pub behind_line : List ℕ → List ℕ
+behind_line [] = []
+behind_line (c ∷ cs) = if c == 10 then cs else behind_line cs
+
+-- all lines
+abbrev pub lines_of : List ℕ → List (List ℕ)
+lines_of [] = []
+lines_of (c ∷ cs) = if c == 10 then [] ∷ lines_of cs else onto_first c (lines_of cs)

@@ -1,0 +1,377 @@
+//! What was dropped and refused, and why.
+ghost use Rattle.std.specs.Prelude.{◌≡◌, Some, [], map, slice_get, slice_index_or};
+ghost use Rattle.report_page.specs.Drops.{cause_at, cause_cells, cause_row, drop_at, drop_cells, drop_row, drops_text};
+ghost use Rattle.report_page.specs.Drops.{limit_mark, met, met_in_all};
+ghost use Rattle.report_page.specs.Drops.{reason_at, reason_name, reason_row, segment_drops, sentence_at, told_text};
+ghost use Rattle.report_page.specs.Segments.{segment_at};
+
+use crate::causes::CAUSES;
+use crate::each::{Each, Parts};
+use crate::over_time::NumberCell;
+use crate::picture::SmallBarsCell;
+use crate::reasons::{REASONS, SENTENCES};
+use crate::segments::{SegmentWord, segment_at};
+use crate::series::{Kind, SPANS, Series, sum_of, together};
+use endpoint_state::ChangeFault;
+use frame_view::Reason;
+use report_counts::ReportCounts;
+use std::fmt;
+
+const DROPS_HEAD: &str = "<section aria-labelledby=\"drops\">\n<h2 id=\"drops\">Drops</h2>\n\
+    <p>Why frames and packets were dropped, or weren't sent at an outlet (39 and 40), and what to look at.</p>\n\
+    <div class=\"wide\" role=\"region\" aria-label=\"Drops by segment and reason\" tabindex=\"0\"><table>\n\
+    <thead><tr><th scope=\"col\">Segment</th><th scope=\"col\" class=\"n\">No.</th><th scope=\"col\">Reason</th>\
+    <th scope=\"col\" class=\"n\">Count</th><th scope=\"col\">What it means</th></tr></thead>\n<tbody>\n";
+
+const REASONS_HEAD: &str = "</tbody>\n</table></div>\n<h3>Reasons over time</h3>\n\
+    <div class=\"wide\" role=\"region\" aria-label=\"Reasons over time\" tabindex=\"0\"><table>\n\
+    <thead><tr><th scope=\"col\">Reason</th><th scope=\"col\" class=\"n\">Count</th>\
+    <th scope=\"col\">Over time</th></tr></thead>\n<tbody>\n";
+
+const CAUSES_HEAD: &str = "</tbody>\n</table></div>\n<h3>Refused changes</h3>\n\
+    <p>A cause that is marked is a limit of the settings that was met.</p>\n\
+    <div class=\"wide\" role=\"region\" aria-label=\"Refused changes by cause\" tabindex=\"0\"><table>\n\
+    <thead><tr><th scope=\"col\">Cause</th><th scope=\"col\" class=\"n\">Count</th><th scope=\"col\">Limit</th></tr></thead>\n\
+    <tbody>\n";
+
+const DROPS_END: &str = "</tbody>\n</table></div>\n</section>\n";
+
+/// How often a reason was met in a segment.
+fn met(counts: &ReportCounts, vid: u16, reason: u8) -> u64
+    ensures { result ≡ met counts.now vid reason }
+{
+    let vid = usize::from(vid);
+    sum_of(counts.dropped(vid, reason), counts.unsent_by(vid, reason))
+}
+
+/// How often a reason was met in all spans.
+fn met_in_all(counts: &ReportCounts, reason: u8) -> u64
+    ensures { result ≡ met_in_all counts.now reason }
+{
+    let series = Series {
+        counts,
+        kind: Kind::Reason(reason),
+    };
+    together(&series, SPANS)
+}
+
+/// The cells of a reason in a segment.
+#[derive(Clone, Copy)]
+struct DropCells {
+    vid: u16,
+    number: u64,
+    name: &'static str,
+    count: u64,
+    sentence: &'static str,
+}
+
+impl fmt::Display for DropCells {
+    ghost output = { λ cells. Some (drop_cells cells.vid cells.number cells.name.now cells.count cells.sentence.now) };
+
+    #[tactic(auto, unfolding(crate::specs::Drops::drop_cells))]
+    fn fmt<W: fmt::Write>(&self, f: &mut fmt::Formatter<W>) -> fmt::Result {
+        let segment = SegmentWord(self.vid);
+        let number = NumberCell(self.number);
+        let name = self.name;
+        let count = NumberCell(self.count);
+        let sentence = self.sentence;
+        write!(
+            f,
+            "<tr><th scope=\"row\">{segment}</th>{number}<td>{name}</td>{count}<td class=\"why\">{sentence}</td></tr>\n"
+        )
+    }
+}
+
+/// The row of a reason in a segment.
+#[derive(Clone, Copy)]
+struct DropRow<'a> {
+    counts: &'a ReportCounts,
+    vid: u16,
+    reason: Reason,
+    sentence: &'static str,
+}
+
+impl<'a> fmt::Display for DropRow<'a> {
+    ghost output = { λ row. Some (drop_row row.counts.now row.vid row.reason row.sentence.now) };
+
+    #[tactic(auto, unfolding(crate::specs::Drops::drop_row))]
+    fn fmt<W: fmt::Write>(&self, f: &mut fmt::Formatter<W>) -> fmt::Result {
+        let number = self.reason.number();
+        let count = met(self.counts, self.vid, number);
+        if count == 0 {
+            return Ok(());
+        }
+        let cells = DropCells {
+            vid: self.vid,
+            number: u64::from(number),
+            name: self.reason.name(),
+            count,
+            sentence: self.sentence,
+        };
+        write!(f, "{cells}")
+    }
+}
+
+/// The text of a place in a table; nothing behind its end.
+fn text_in(texts: &[&'static str], place: u16) -> &'static str
+    ensures { result.now ≡ slice_index_or (map told_text texts.now) place [] }
+{
+    match texts.get(usize::from(place)) {
+        Some(text) => *text,
+        None => "",
+    }
+}
+
+/// What a reason means, by its place.
+#[tactic(auto, unfolding(crate::specs::Drops::sentence_at))]
+fn sentence_at(place: u16) -> &'static str
+    ensures { result.now ≡ sentence_at place }
+{
+    text_in(&SENTENCES, place)
+}
+
+/// The reason of a place in a table; none behind its end.
+fn reason_in(reasons: &[Reason], place: u16) -> Option<Reason>
+    ensures { result ≡ slice_get reasons.now place }
+{
+    reasons.get(usize::from(place)).copied()
+}
+
+/// The cause of a place in a table; none behind its end.
+fn cause_in(causes: &[ChangeFault], place: u16) -> Option<ChangeFault>
+    ensures { result ≡ slice_get causes.now place }
+{
+    causes.get(usize::from(place)).copied()
+}
+
+/// The name of the reason of a number; of none of them nothing.
+#[tactic(auto, unfolding(crate::specs::Drops::reason_name))]
+pub(crate) fn reason_name(number: u8) -> &'static str
+    ensures { result.now ≡ reason_name number }
+{
+    match reason_in(&REASONS, u16::from(number).saturating_sub(1)) {
+        Some(reason) => reason.name(),
+        None => "",
+    }
+}
+
+/// The rows of a segment.
+#[derive(Clone, Copy)]
+struct DropsOf<'a> {
+    counts: &'a ReportCounts,
+    vid: u16,
+}
+
+impl<'a> Parts for DropsOf<'a> {
+    ghost part = { λ rows place. drop_at rows.counts.now rows.vid place };
+
+    #[tactic(auto, unfolding(crate::specs::Drops::drop_at))]
+    fn put<W: fmt::Write>(&self, place: u16, f: &mut fmt::Formatter<W>) -> fmt::Result {
+        match reason_in(&REASONS, place) {
+            Some(reason) => {
+                let row = DropRow {
+                    counts: self.counts,
+                    vid: self.vid,
+                    reason,
+                    sentence: sentence_at(place),
+                };
+                write!(f, "{row}")
+            }
+            None => Ok(()),
+        }
+    }
+}
+
+/// The rows of all segments.
+#[derive(Clone, Copy)]
+struct DropRows<'a>(&'a ReportCounts);
+
+impl<'a> Parts for DropRows<'a> {
+    ghost part = { λ rows place. segment_drops rows.0.now (segment_at place) };
+
+    fn put<W: fmt::Write>(&self, place: u16, f: &mut fmt::Formatter<W>) -> fmt::Result {
+        let rows = Each {
+            parts: DropsOf {
+                counts: self.0,
+                vid: segment_at(place),
+            },
+            count: 40,
+        };
+        write!(f, "{rows}")
+    }
+}
+
+/// The row of a reason over time.
+#[derive(Clone, Copy)]
+struct ReasonRow<'a> {
+    counts: &'a ReportCounts,
+    reason: Reason,
+}
+
+impl<'a> fmt::Display for ReasonRow<'a> {
+    ghost output = { λ row. Some (reason_row row.counts.now row.reason) };
+
+    #[tactic(auto, unfolding(crate::specs::Drops::reason_row))]
+    fn fmt<W: fmt::Write>(&self, f: &mut fmt::Formatter<W>) -> fmt::Result {
+        let number = self.reason.number();
+        let count = met_in_all(self.counts, number);
+        if count == 0 {
+            return Ok(());
+        }
+        let name = self.reason.name();
+        let count = NumberCell(count);
+        let bars = SmallBarsCell {
+            colour: "c",
+            series: Series {
+                counts: self.counts,
+                kind: Kind::Reason(number),
+            },
+        };
+        write!(
+            f,
+            "<tr><th scope=\"row\">{number} {name}</th>{count}{bars}</tr>\n"
+        )
+    }
+}
+
+/// The rows of all reasons.
+#[derive(Clone, Copy)]
+struct ReasonRows<'a>(&'a ReportCounts);
+
+impl<'a> Parts for ReasonRows<'a> {
+    ghost part = { λ rows place. reason_at rows.0.now place };
+
+    #[tactic(auto, unfolding(crate::specs::Drops::reason_at))]
+    fn put<W: fmt::Write>(&self, place: u16, f: &mut fmt::Formatter<W>) -> fmt::Result {
+        match reason_in(&REASONS, place) {
+            Some(reason) => {
+                let row = ReasonRow {
+                    counts: self.0,
+                    reason,
+                };
+                write!(f, "{row}")
+            }
+            None => Ok(()),
+        }
+    }
+}
+
+/// What marks a cause that is a limit.
+#[derive(Clone, Copy)]
+struct LimitMark(ChangeFault);
+
+impl fmt::Display for LimitMark {
+    ghost output = { λ mark. Some (limit_mark mark.0) };
+
+    fn fmt<W: fmt::Write>(&self, f: &mut fmt::Formatter<W>) -> fmt::Result {
+        match self.0 {
+            ChangeFault::FloodFull
+            | ChangeFault::TableFull
+            | ChangeFault::PoolFull
+            | ChangeFault::SegmentsFull => write!(f, "<span class=\"limit\">a limit</span>"),
+            _ => Ok(()),
+        }
+    }
+}
+
+/// The cells of a cause.
+#[derive(Clone, Copy)]
+struct CauseCells {
+    number: u8,
+    name: &'static str,
+    count: u64,
+    mark: LimitMark,
+}
+
+impl fmt::Display for CauseCells {
+    ghost output = { λ cells. Some (cause_cells cells.number cells.name.now cells.count (limit_mark cells.mark.0)) };
+
+    #[tactic(auto, unfolding(crate::specs::Drops::cause_cells))]
+    fn fmt<W: fmt::Write>(&self, f: &mut fmt::Formatter<W>) -> fmt::Result {
+        let number = self.number;
+        let name = self.name;
+        let count = NumberCell(self.count);
+        let mark = self.mark;
+        write!(
+            f,
+            "<tr><th scope=\"row\">{number} {name}</th>{count}<td>{mark}</td></tr>\n"
+        )
+    }
+}
+
+/// The row of a cause.
+#[derive(Clone, Copy)]
+struct CauseRow<'a> {
+    counts: &'a ReportCounts,
+    cause: ChangeFault,
+}
+
+impl<'a> fmt::Display for CauseRow<'a> {
+    ghost output = { λ row. Some (cause_row row.counts.now row.cause) };
+
+    #[tactic(auto, unfolding(crate::specs::Drops::cause_row))]
+    fn fmt<W: fmt::Write>(&self, f: &mut fmt::Formatter<W>) -> fmt::Result {
+        let number = self.cause.number();
+        let count = self.counts.refused(number);
+        if count == 0 {
+            return Ok(());
+        }
+        let cells = CauseCells {
+            number,
+            name: self.cause.name(),
+            count,
+            mark: LimitMark(self.cause),
+        };
+        write!(f, "{cells}")
+    }
+}
+
+/// The rows of all causes.
+#[derive(Clone, Copy)]
+struct CauseRows<'a>(&'a ReportCounts);
+
+impl<'a> Parts for CauseRows<'a> {
+    ghost part = { λ rows place. cause_at rows.0.now place };
+
+    #[tactic(auto, unfolding(crate::specs::Drops::cause_at))]
+    fn put<W: fmt::Write>(&self, place: u16, f: &mut fmt::Formatter<W>) -> fmt::Result {
+        match cause_in(&CAUSES, place) {
+            Some(cause) => {
+                let row = CauseRow {
+                    counts: self.0,
+                    cause,
+                };
+                write!(f, "{row}")
+            }
+            None => Ok(()),
+        }
+    }
+}
+
+/// All of it.
+#[derive(Clone, Copy)]
+pub(crate) struct Drops<'a>(pub &'a ReportCounts);
+
+impl<'a> fmt::Display for Drops<'a> {
+    ghost output = { λ section. Some (drops_text section.0.now) };
+
+    #[tactic(auto, unfolding(crate::specs::Drops::drops_text))]
+    fn fmt<W: fmt::Write>(&self, f: &mut fmt::Formatter<W>) -> fmt::Result {
+        let drops = Each {
+            parts: DropRows(self.0),
+            count: 4095,
+        };
+        let reasons = Each {
+            parts: ReasonRows(self.0),
+            count: 40,
+        };
+        let causes = Each {
+            parts: CauseRows(self.0),
+            count: 14,
+        };
+        write!(
+            f,
+            "{DROPS_HEAD}{drops}{REASONS_HEAD}{reasons}{CAUSES_HEAD}{causes}{DROPS_END}"
+        )
+    }
+}

@@ -1,0 +1,2 @@
+mod count_tests;
+mod line_tests;

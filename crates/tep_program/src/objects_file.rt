@@ -1,0 +1,154 @@
+//! The file of the decision lines as JSON objects.
+//!
+//! It is made anew when the first object is written, by one who looks on at a run: so where the texts are refused, or an output
+//! can't be opened, what stands in it is kept.
+ghost use Rattle.std.specs.Prelude.{None};
+
+use crate::directions::LeavesOut;
+use decision_objects::Objects;
+use overlay_config::TimedChange;
+use pcap_stream::{BlockOutput, StdOutput};
+use program_faults::{Failure, OutputFile, SystemFault};
+use program_files::path_of;
+use std::alloc::AllocError;
+use std::fs::OpenOptions;
+use std::io::{self, ErrorKind, Write};
+use std::path::PathBuf;
+use std::rt::Files;
+use timeline::{Cut, Tap};
+
+/// How many octets are written at once.
+const BLOCK: usize = 65_536;
+
+/// The objects' file, written in blocks.
+pub(crate) type ObjectsFile<'r, R> = BlockOutput<StdOutput<LateFile<'r, R>>>;
+
+/// Who writes the objects of a run into that file.
+pub(crate) type RunObjects<'r, 'c, R> = Objects<'c, ObjectsFile<'r, R>>;
+
+/// A file that is made anew when it is first written. It keeps what the system told of the last call that failed.
+#[derive(Drop)]
+pub(crate) struct LateFile<'r, R: Files> {
+    rt: &'r R,
+    path: PathBuf,
+    file: Option<R::File>,
+    fault: Option<SystemFault>,
+}
+
+/// The objects' file of a folder, which isn't opened yet.
+fn objects_file<'r, R: Files + AllocGlobal>(
+    rt: &'r R,
+    folder: &str,
+) -> Result<ObjectsFile<'r, R>, AllocError> {
+    let file = LateFile {
+        rt,
+        path: path_of(rt.alloc(), folder, OutputFile::Objects)?,
+        file: None,
+        fault: None,
+    };
+    BlockOutput::new(rt.alloc(), StdOutput::new(file), BLOCK)
+}
+
+/// Who writes the objects of a run with these changes into its folder, where it has one and they are wanted.
+pub(crate) fn objects_of_run<'r, 'c, R: Files + AllocGlobal>(
+    rt: &'r R,
+    folder: Option<&str>,
+    is_wanted: bool,
+    changes: &'c [TimedChange],
+) -> Result<Option<RunObjects<'r, 'c, R>>, AllocError> {
+    match folder {
+        Some(folder) if is_wanted => {
+            let file = objects_file(rt, folder)?;
+            Ok(Some(Objects::new(file, changes)))
+        }
+        _ => Ok(None),
+    }
+}
+
+/// Hands on what the block holds of a run that stopped. Where no object was written, the file isn't made.
+pub(crate) fn leave_objects<R: Files>(objects: Option<RunObjects<'_, '_, R>>) {
+    if let Some(objects) = objects {
+        let mut file = objects.into_output();
+        let _ = file.finish();
+    }
+}
+
+/// Writes the objects of the captures that are cut, and hands on what the block holds, where all that was told could be written
+/// so far. The file is made where nothing was.
+pub(crate) fn finish_objects<R: Files, L: LeavesOut>(
+    objects: Option<RunObjects<'_, '_, R>>,
+    sieve: &L,
+    cut: &[Tap],
+) -> Result<(), Failure<'static>> {
+    let Some(objects) = objects else {
+        return Ok(());
+    };
+    let mut objects = objects;
+    for tap in cut {
+        let came = objects.records(*tap);
+        let whole = came.saturating_add(sieve.left_out_at(*tap));
+        objects.cut(&Cut { tap: *tap, whole });
+    }
+    let is_failed = objects.is_failed();
+    let mut file = objects.into_output();
+    let is_handed_on = !is_failed && file.finish().is_ok();
+    let mut late = file.into_inner().into_inner();
+    if is_handed_on && late.file().is_ok() {
+        return Ok(());
+    }
+    match late.fault {
+        Some(fault) => Err(Failure::WriteFailed(OutputFile::Objects, fault)),
+        None => Err(Failure::Write(OutputFile::Objects)),
+    }
+}
+
+impl<'r, R: Files> LateFile<'r, R> {
+    /// The file, which is made anew where it wasn't yet.
+    fn file(&mut self) -> io::Result<&mut R::File> {
+        if self.file.is_none() {
+            let opened = OpenOptions::new()
+                .write(true)
+                .create(true)
+                .truncate(true)
+                .open(self.rt, self.path.as_path());
+            match opened {
+                Ok(file) => self.file = Some(file),
+                Err(error) => {
+                    self.fault = SystemFault::of(&error);
+                    return Err(error);
+                }
+            }
+        }
+        match &mut self.file {
+            Some(file) => Ok(file),
+            None => Err(io::Error::from(ErrorKind::Other)),
+        }
+    }
+}
+
+impl<'r, R: Files> Write for LateFile<'r, R> {
+    ghost contents = { λ _. None };
+
+    fn write(&mut self, octets: &[u8]) -> io::Result<usize> {
+        let written = match self.file() {
+            Ok(file) => file.write(octets),
+            Err(error) => return Err(error),
+        };
+        match written {
+            Ok(count) => Ok(count),
+            Err(error) => {
+                if error.kind() != ErrorKind::Interrupted {
+                    self.fault = SystemFault::of(&error);
+                }
+                Err(error)
+            }
+        }
+    }
+
+    fn flush(&mut self) -> io::Result<()> {
+        match &mut self.file {
+            Some(file) => file.flush(),
+            None => Ok(()),
+        }
+    }
+}

@@ -1,0 +1,129 @@
+//! What is told of a run that is done, besides its outputs.
+use crate::directions::{LeavesOut, records_at};
+use crate::told_runs::Asked;
+use json_forms::Kind;
+use program_faults::{Failure, OutputFile};
+use program_files::{Shown, leave_text, print_shown};
+use run_counts::{RunCounts, put_cuts};
+use run_reports::Reports;
+use runs_on_files::Ran;
+use std::alloc::{AllocError, Global};
+use std::rt::Files;
+use talkers::Talkers;
+use timeline::Tap;
+use tunnel_traffic::TunnelTraffic;
+
+/// Whoever counted while a run went, as far as that is asked for.
+#[derive(Drop)]
+pub(crate) struct Counted {
+    pub(crate) counts: Option<RunCounts>,
+    pub(crate) tunnels: Option<TunnelTraffic>,
+    pub(crate) talkers: Option<Talkers>,
+}
+
+/// Prints what a run told and counted. A part leaves its tables at the end and its counts in its folder before, and last what
+/// it was made from.
+pub(crate) fn tell_all<R: Files + AllocGlobal + Print, L: LeavesOut>(
+    rt: &R,
+    folder: Option<&str>,
+    asked: Asked<'_, '_>,
+    reports: Reports<'_, '_>,
+    counted: Counted,
+    sieve: &L,
+    ran: &mut Ran<R::File>,
+) -> Result<(), Failure<'static>> {
+    let Ok((told, tables)) = reports.into_texts() else {
+        return Err(Failure::from(AllocError));
+    };
+    let Counted {
+        counts,
+        tunnels,
+        talkers,
+    } = counted;
+    let summary = summary_of(rt.alloc(), counts, tunnels, sieve, ran.cut.as_slice())?;
+    let talks = talks_text(rt.alloc(), talkers)?;
+    let left = match leave_texts(rt, folder, asked, tables.as_slice(), summary.as_slice()) {
+        Ok(()) => ran.finish(),
+        Err(failure) => Err(failure),
+    };
+    left.and(print_as(rt, asked.json, Kind::Events, told.as_slice()))
+        .and(print_as(rt, asked.json, Kind::Tables, tables.as_slice()))
+        .and(print_as(rt, asked.json, Kind::Counts, summary.as_slice()))
+        .and(print_as(rt, asked.json, Kind::Counts, talks.as_slice()))
+}
+
+/// Who talked to whom, where that is asked for.
+fn talks_text(alloc: Global, talkers: Option<Talkers>) -> Result<Vec<u8>, AllocError> {
+    match talkers {
+        Some(talkers) => talkers.text(alloc),
+        None => Ok(Vec::new(alloc)),
+    }
+}
+
+/// Writes the tables and the counts of a part into its folder, where it has one, as far as they are asked for.
+fn leave_texts<R: Files + AllocGlobal>(
+    rt: &R,
+    folder: Option<&str>,
+    asked: Asked<'_, '_>,
+    tables: &[u8],
+    summary: &[u8],
+) -> Result<(), Failure<'static>> {
+    let (Some(folder), Some(_)) = (folder, asked.segments) else {
+        return Ok(());
+    };
+    if asked.tables {
+        leave_text(rt, folder, OutputFile::Tables, tables)?;
+    }
+    if asked.summary {
+        leave_text(rt, folder, OutputFile::Summary, summary)?;
+    }
+    Ok(())
+}
+
+/// What a run counted, and what passed by tunnels, where that is asked for.
+fn summary_of<L: LeavesOut>(
+    alloc: Global,
+    counts: Option<RunCounts>,
+    tunnels: Option<TunnelTraffic>,
+    sieve: &L,
+    cut: &[Tap],
+) -> Result<Vec<u8>, AllocError> {
+    let (Some(counts), Some(tunnels)) = (counts, tunnels) else {
+        return Ok(Vec::new(alloc));
+    };
+    let records = records_at(&counts, sieve, cut);
+    let mut cuts = String::new(alloc);
+    put_cuts(&mut cuts, &records, cut)?;
+    let mut text = counts.into_text(&[])?;
+    text.extend_from_slice(cuts.as_bytes())?;
+    let passed = tunnels.text(alloc)?;
+    text.extend_from_slice(passed.as_slice())?;
+    Ok(text)
+}
+
+/// Prints what a run told.
+pub(crate) fn print_told<R: AllocGlobal + Print>(
+    rt: &R,
+    json: bool,
+    reports: Reports<'_, '_>,
+) -> Result<(), Failure<'static>> {
+    let Ok((told, tables)) = reports.into_texts() else {
+        return Err(Failure::from(AllocError));
+    };
+    print_as(rt, json, Kind::Events, told.as_slice()).and(print_as(
+        rt,
+        json,
+        Kind::Tables,
+        tables.as_slice(),
+    ))
+}
+
+/// Prints lines of a kind, as JSON objects where that is asked for.
+fn print_as<R: AllocGlobal + Print>(
+    rt: &R,
+    json: bool,
+    kind: Kind,
+    text: &[u8],
+) -> Result<(), Failure<'static>> {
+    print_shown(rt, Shown::of(json, kind), text)
+}

@@ -1,0 +1,155 @@
+#!/usr/bin/env python3
+"""Whether a page that `tep report` made is what it should be: report_page.py PAGE SUMMARY DECISIONS
+
+The page is HTML whose elements are closed, it has no script and names nothing elsewhere, each picture has a title, and its numbers
+are those of the text that `tep run --summary --tables --talkers` printed (SUMMARY) and of the decision lines. What is wrong is
+told, and the status is 1."""
+import sys
+from collections import Counter
+from html.parser import HTMLParser
+
+VOID = {"meta", "br", "hr"}
+ELSEWHERE = {"src", "srcset", "data", "action", "poster", "xlink:href"}
+FORBIDDEN = {"script", "link", "img", "iframe", "object", "embed", "base", "form", "audio", "video", "image", "use"}
+ASIDE = {"svg", "details"}
+
+
+def complain(text):
+    sys.exit(f"report_page.py: {text}")
+
+
+class Page(HTMLParser):
+    """The tables of a page, by the section and the heading that they stand below: each a list of rows of the texts of cells."""
+
+    def __init__(self):
+        super().__init__(convert_charrefs=True)
+        self.open, self.tables = [], {}
+        self.section = self.heading = None
+        self.rows = self.cell = None
+        self.pictures = self.titles = 0
+
+    def handle_starttag(self, tag, attributes):
+        if tag in FORBIDDEN:
+            complain(f"an element {tag} stands on the page")
+        for name, value in attributes:
+            if name in ELSEWHERE or name.startswith("on"):
+                complain(f"{tag} has {name}={value!r}")
+            if name == "href" and not value.startswith("#"):
+                complain(f"a link leads to {value!r}")
+        named = dict(attributes)
+        if tag == "svg":
+            self.pictures += 1
+            if named.get("role") != "img":
+                complain("a picture has no role")
+        if tag == "title" and "svg" in self.open and self.open[-1] == "svg":
+            self.titles += 1
+        if tag == "h2":
+            self.section, self.heading = named.get("id"), None
+        if tag == "table" and not ASIDE & set(self.open):
+            self.rows = self.tables.setdefault((self.section, self.heading), [])
+        if tag == "tr" and self.rows is not None:
+            self.rows.append([])
+        if tag in ("td", "th") and self.rows is not None:
+            self.cell = ""
+        if tag == "h3":
+            self.heading = ""
+        if tag not in VOID:
+            self.open.append(tag)
+
+    def handle_startendtag(self, tag, attributes):
+        self.handle_starttag(tag, attributes)
+        if tag not in VOID:
+            self.open.pop()
+
+    def handle_endtag(self, tag):
+        if not self.open or self.open.pop() != tag:
+            complain(f"{tag} is closed where it isn't open")
+        if ASIDE & set(self.open):
+            return
+        if tag in ("td", "th") and self.rows is not None:
+            self.rows[-1].append(" ".join(self.cell.split()))
+            self.cell = None
+        if tag == "table":
+            self.rows = None
+
+    def handle_data(self, data):
+        if self.open and self.open[-1] == "style":
+            if "url(" in data or "@import" in data:
+                complain("the style names something elsewhere")
+            return
+        if ASIDE & set(self.open):
+            return
+        if self.open and self.open[-1] == "h3":
+            self.heading += data
+        if self.cell is not None:
+            self.cell += data
+
+    def rows_of(self, section, heading=None, heads=1):
+        """The rows of a table below so many heads."""
+        return self.tables.get((section, heading), [[]] * heads)[heads:]
+
+
+def same(what, told, wanted):
+    """Complains where these aren't the same."""
+    if told != wanted:
+        complain(f"{what}: the page has {told}\n  and the text {wanted}")
+
+
+def summary_of(path):
+    """What a summary tells, line by line in words."""
+    return [line.split() for line in open(path, encoding="utf-8") if not line.startswith("  ")]
+
+
+def main():
+    page_path, summary_path, decisions_path = sys.argv[1:]
+    text = open(page_path, "rb").read().decode("utf-8")
+    page = Page()
+    page.feed(text)
+    page.close()
+    if page.open:
+        complain(f"{page.open} aren't closed")
+    if not page.pictures or page.titles < page.pictures:
+        complain(f"{page.pictures} pictures have {page.titles} titles")
+    lines = summary_of(summary_path)
+    decisions = [line.split() for line in open(decisions_path, encoding="utf-8")]
+    dropped = {(w[1], w[3], w[4]): w[5] for w in lines if w[0] == "segment" and w[2] == "dropped"}
+    same("drops", {tuple(row[:3]): row[3] for row in page.rows_of("drops")}, dropped)
+    refused = {(w[2], w[3]): w[4] for w in lines if w[:2] == ["change", "refused"]}
+    told = {tuple(row[0].split()): row[1] for row in page.rows_of("drops", "Refused changes")}
+    same("refused changes", told, refused)
+    came = {w[1]: w[3] for w in lines if w[0] == "place" and w[2] == "in" and w[3] != "0"}
+    changes = sum(1 for w in decisions if w[2] == "c")
+    if changes:
+        came["changes"] = str(changes)
+    same("what came", {row[0]: row[1] for row in page.rows_of("places", "What came")}, came)
+    left = {row[0]: row[1:3] for row in page.rows_of("places", "What left")}
+    for w in lines:
+        if w[0] == "place" and w[2] == "out":
+            mine = [row for name, row in left.items() if name == w[1] or (w[1] == "u" and not name.startswith("p"))]
+            told = [str(sum(int(row[k]) for row in mine)) for k in (0, 1)]
+            same(f"what left at {w[1]}", told, w[3:5])
+    events, sent, drops = Counter(), Counter(), Counter()
+    for w in decisions:
+        if w[0] == "cut":
+            continue
+        vid = "none" if w[4] == "-" else w[4]
+        events[vid] += 1
+        sent[vid] += sum(1 for word in w[5:] if "=" in word)
+        drops[vid] += w[5] == "drop"
+    told = {row[0]: row[1:4] for row in page.rows_of("segments")}
+    same("segments", told, {vid: [str(n), str(sent[vid]), str(drops[vid])] for vid, n in events.items()})
+    for w in lines:
+        if w[0] == "segment" and w[2] == "sent":
+            same(f"sent in {w[1]}", told[w[1]][1], w[3])
+    first = [w for w in decisions if len(w) > 5 and w[5] == "drop"][:100]
+    wanted = [[w[0], w[1], f"{w[2]}:{w[3]}", "none" if w[4] == "-" else w[4], f"{w[6]} {w[7]}"] for w in first]
+    same("first drops", [row[:1] + row[2:6] for row in page.rows_of("first")], wanted)
+    same("commands", [row[6] for row in page.rows_of("first")], [f"tep run .. --why {w[2]}:{w[3]}" for w in first])
+    entries = [w[1:4] for w in lines if w[0] == "segment" and w[-1] == "fixed" or len(w) > 4 and w[4] == "seen"]
+    same("entries", sorted(row[1:4] for row in page.rows_of("stations", "Tables", 0)), sorted(entries[:1000]))
+    talks = [w for w in lines if w[0] == "talk" and w[1] != "others"]
+    talks = sorted((int(w[8]) for w in talks), reverse=True)[:50]
+    same("talks", [int(row[8]) for row in page.rows_of("stations", "Talks", 0)], talks)
+
+
+main()

@@ -70,6 +70,9 @@ told events run "${every[@]}" --tables-at 20000000000 "${ports[@]}"
 told events run "${every[@]}" --why drop:any --why 1 --why c:1 --why u:2 "${ports[@]}"
 told events explain -s examples/every_key.toml "$folder/in/underlay.pcap"
 told events explain -s examples/every_key.toml --values "$folder/in/underlay.pcap"
+grep -q '"more":[01],"offset":[0-9]*,"part":"ip4"' "$folder/objects" || complain "the values of a fragment aren't told by their words"
+grep '"fact":"\(ether\|tag\|type\|ip4\|ip6\|udp\|vxlan\|geneve\|payload\|tail\|stop\) ' "$folder/objects" &&
+    complain "a layer is told as what a test saw"
 told looks check -s examples/every_key.toml -c examples/every_change.toml -u "$folder/in/underlay.pcap" "${ports[@]}"
 told looks check -s examples/a.toml -c examples/changes.toml
 printf 'version = 1\nunderlay = { nexthop = "02:00:00:00:00:01" }\n' >"$folder/wrong.toml"

@@ -92,7 +92,7 @@ def look(told):
     if kind == "ok":
         return f"ok: {told['ports']} ports, {told['segments']} segments, {told['changes']} changes"
     if kind == "refused":
-        return f"change {told['change']} at {told['moment']} refused {told['cause']} {told['name']}"
+        return f"change {told['change']} at {told['moment']}: refused {told['cause']} {told['name']}"
     if kind == "below":
         return f"  {told['note']}"
     if kind == "note":

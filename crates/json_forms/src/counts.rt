@@ -1,30 +1,33 @@
 //! Lines of what a run counted.
-use json_lines::Word::{Is, Number, Text};
-use json_lines::{End, Form, Member, Told};
+ghost use Rattle.json_laws.specs.ReadBack.{AreWhole};
 
-const SEGMENT_SENT: Form = Form {
+use json_lines::Told::Word as At;
+use json_lines::Word::{Is, Number, Text};
+use json_lines::{End, Form, Member};
+
+const SENT: Form = Form {
     words: &[Is("segment"), Number, Is("sent"), Number],
     end: End::Here,
     members: &[
-        Member("count", Told::Word(3)),
-        Member("line", Told::Fixed("sent")),
-        Member("segment", Told::Word(1)),
+        Member("count", At(3)),
+        Member("line", At(2)),
+        Member("segment", At(1)),
     ],
 };
 
-const SEGMENT_DROPPED: Form = Form {
+const DROPPED: Form = Form {
     words: &[Is("segment"), Number, Is("dropped"), Number, Text, Number],
     end: End::Here,
     members: &[
-        Member("count", Told::Word(5)),
-        Member("line", Told::Fixed("dropped")),
-        Member("name", Told::Word(4)),
-        Member("reason", Told::Word(3)),
-        Member("segment", Told::Word(1)),
+        Member("count", At(5)),
+        Member("line", At(2)),
+        Member("name", At(4)),
+        Member("reason", At(3)),
+        Member("segment", At(1)),
     ],
 };
 
-const SEGMENT_NONE_DROPPED: Form = Form {
+const DROPPED_IN_NONE: Form = Form {
     words: &[
         Is("segment"),
         Is("none"),
@@ -35,89 +38,72 @@ const SEGMENT_NONE_DROPPED: Form = Form {
     ],
     end: End::Here,
     members: &[
-        Member("count", Told::Word(5)),
-        Member("line", Told::Fixed("dropped")),
-        Member("name", Told::Word(4)),
-        Member("reason", Told::Word(3)),
+        Member("count", At(5)),
+        Member("line", At(2)),
+        Member("name", At(4)),
+        Member("reason", At(3)),
     ],
 };
 
-const CHANGE_REFUSED: Form = Form {
+const REFUSED: Form = Form {
     words: &[Is("change"), Is("refused"), Number, Text, Number],
     end: End::Here,
     members: &[
-        Member("cause", Told::Word(2)),
-        Member("count", Told::Word(4)),
-        Member("line", Told::Fixed("refused")),
-        Member("name", Told::Word(3)),
+        Member("cause", At(2)),
+        Member("count", At(4)),
+        Member("line", At(1)),
+        Member("name", At(3)),
     ],
 };
 
-const PLACE_IN: Form = Form {
-    words: &[Is("place"), Text, Is("in"), Number, Number],
+/// A place, in or out.
+const PLACE: Form = Form {
+    words: &[Is("place"), Text, Text, Number, Number],
     end: End::Here,
     members: &[
-        Member("count", Told::Word(3)),
-        Member("direction", Told::Fixed("in")),
-        Member("line", Told::Fixed("place")),
-        Member("octets", Told::Word(4)),
-        Member("place", Told::Word(1)),
+        Member("count", At(3)),
+        Member("direction", At(2)),
+        Member("line", At(0)),
+        Member("octets", At(4)),
+        Member("place", At(1)),
     ],
 };
 
-const PLACE_OUT: Form = Form {
-    words: &[Is("place"), Text, Is("out"), Number, Number],
-    end: End::Here,
-    members: &[
-        Member("count", Told::Word(3)),
-        Member("direction", Told::Fixed("out")),
-        Member("line", Told::Fixed("place")),
-        Member("octets", Told::Word(4)),
-        Member("place", Told::Word(1)),
-    ],
-};
-
-const CHECKSUM_PARTIAL: Form = Form {
+const CHECKSUM: Form = Form {
     words: &[Is("checksum"), Is("partial"), Number],
     end: End::Here,
-    members: &[
-        Member("count", Told::Word(2)),
-        Member("line", Told::Fixed("checksum")),
-    ],
+    members: &[Member("count", At(2)), Member("line", At(0))],
 };
 
-const CUT_2: Form = Form {
+const CUT: Form = Form {
     words: &[Is("cut"), Text, Number],
     end: End::Here,
     members: &[
-        Member("line", Told::Fixed("cut")),
-        Member("place", Told::Word(1)),
-        Member("records", Told::Word(2)),
+        Member("line", At(0)),
+        Member("place", At(1)),
+        Member("records", At(2)),
     ],
 };
 
-const UNKNOWN_OTHERS: Form = Form {
+const OTHER_UNKNOWN: Form = Form {
     words: &[Is("unknown"), Is("others"), Number],
     end: End::Here,
-    members: &[
-        Member("count", Told::Word(2)),
-        Member("line", Told::Fixed("unknown")),
-    ],
+    members: &[Member("count", At(2)), Member("line", At(0))],
 };
 
-const UNKNOWN_FROM: Form = Form {
+const UNKNOWN: Form = Form {
     words: &[Is("unknown"), Text, Number, Is("from"), Text, Number],
     end: End::Here,
     members: &[
-        Member("address", Told::Word(4)),
-        Member("count", Told::Word(5)),
-        Member("kind", Told::Word(1)),
-        Member("line", Told::Fixed("unknown")),
-        Member("vni", Told::Word(2)),
+        Member("address", At(4)),
+        Member("count", At(5)),
+        Member("kind", At(1)),
+        Member("line", At(0)),
+        Member("vni", At(2)),
     ],
 };
 
-const REMOTE_IN_OUT: Form = Form {
+const REMOTE: Form = Form {
     words: &[
         Is("remote"),
         Text,
@@ -130,16 +116,16 @@ const REMOTE_IN_OUT: Form = Form {
     ],
     end: End::Here,
     members: &[
-        Member("in", Told::Word(3)),
-        Member("in_octets", Told::Word(4)),
-        Member("line", Told::Fixed("remote")),
-        Member("out", Told::Word(6)),
-        Member("out_octets", Told::Word(7)),
-        Member("remote", Told::Word(1)),
+        Member("in", At(3)),
+        Member("in_octets", At(4)),
+        Member("line", At(0)),
+        Member("out", At(6)),
+        Member("out_octets", At(7)),
+        Member("remote", At(1)),
     ],
 };
 
-const TALK_OTHERS_FIRST_LAST: Form = Form {
+const OTHER_TALKS: Form = Form {
     words: &[
         Is("talk"),
         Is("others"),
@@ -152,15 +138,15 @@ const TALK_OTHERS_FIRST_LAST: Form = Form {
     ],
     end: End::Here,
     members: &[
-        Member("count", Told::Word(2)),
-        Member("first", Told::Word(5)),
-        Member("last", Told::Word(7)),
-        Member("line", Told::Fixed("talk")),
-        Member("octets", Told::Word(3)),
+        Member("count", At(2)),
+        Member("first", At(5)),
+        Member("last", At(7)),
+        Member("line", At(0)),
+        Member("octets", At(3)),
     ],
 };
 
-const TALK_FIRST_LAST: Form = Form {
+const TALK: Form = Form {
     words: &[
         Is("talk"),
         Number,
@@ -178,32 +164,38 @@ const TALK_FIRST_LAST: Form = Form {
     ],
     end: End::Here,
     members: &[
-        Member("count", Told::Word(7)),
-        Member("destination", Told::Word(5)),
-        Member("first", Told::Word(10)),
-        Member("from", Told::Word(3)),
-        Member("last", Told::Word(12)),
-        Member("line", Told::Fixed("talk")),
-        Member("octets", Told::Word(8)),
-        Member("segment", Told::Word(1)),
-        Member("source", Told::Word(2)),
-        Member("to", Told::Word(6)),
+        Member("count", At(7)),
+        Member("destination", At(5)),
+        Member("first", At(10)),
+        Member("from", At(3)),
+        Member("last", At(12)),
+        Member("line", At(0)),
+        Member("octets", At(8)),
+        Member("segment", At(1)),
+        Member("source", At(2)),
+        Member("to", At(6)),
     ],
 };
 
-/// The lines of a summary, and of who talks to whom.
-pub(crate) static COUNTS: [Form; 13] = [
-    SEGMENT_SENT,
-    SEGMENT_DROPPED,
-    SEGMENT_NONE_DROPPED,
-    CHANGE_REFUSED,
-    PLACE_IN,
-    PLACE_OUT,
-    CHECKSUM_PARTIAL,
-    CUT_2,
-    UNKNOWN_OTHERS,
-    UNKNOWN_FROM,
-    REMOTE_IN_OUT,
-    TALK_OTHERS_FIRST_LAST,
-    TALK_FIRST_LAST,
+static COUNTS: [Form; 12] = [
+    SENT,
+    DROPPED,
+    DROPPED_IN_NONE,
+    REFUSED,
+    PLACE,
+    CHECKSUM,
+    CUT,
+    OTHER_UNKNOWN,
+    UNKNOWN,
+    REMOTE,
+    OTHER_TALKS,
+    TALK,
 ];
+
+/// The lines of a summary, and of who talks to whom.
+#[tactic(auto, using(json_laws::proofs::Whole::whole_forms))]
+pub(crate) fn count_forms() -> &'static [Form]
+    ensures { AreWhole result.now }
+{
+    &COUNTS
+}

@@ -1,18 +1,21 @@
-//! Decision lines.
+//! Decision lines, and what tests saw of an event.
+ghost use Rattle.json_laws.specs.ReadBack.{AreWhole};
+
+use json_lines::Told::{Fixed, Word as At};
 use json_lines::Word::{Is, Number, NumberOrNothing, Text};
 use json_lines::{End, Form, Member, Told};
 
-const EVENT_MOMENT: Form = Form {
+const SENT: Form = Form {
     words: &[Number, Text, Text, Number, NumberOrNothing],
     end: End::Outcomes,
     members: &[
-        Member("event", Told::Word(0)),
-        Member("moment", Told::Word(1)),
-        Member("number", Told::Word(3)),
+        Member("event", At(0)),
+        Member("moment", At(1)),
+        Member("number", At(3)),
         Member("outcomes", Told::Outcomes),
-        Member("result", Told::Fixed("sent")),
-        Member("segment", Told::Word(4)),
-        Member("source", Told::Word(2)),
+        Member("result", Fixed("sent")),
+        Member("segment", At(4)),
+        Member("source", At(2)),
     ],
 };
 
@@ -29,14 +32,14 @@ const DROP: Form = Form {
     ],
     end: End::Here,
     members: &[
-        Member("event", Told::Word(0)),
-        Member("moment", Told::Word(1)),
-        Member("name", Told::Word(7)),
-        Member("number", Told::Word(3)),
-        Member("reason", Told::Word(6)),
-        Member("result", Told::Fixed("drop")),
-        Member("segment", Told::Word(4)),
-        Member("source", Told::Word(2)),
+        Member("event", At(0)),
+        Member("moment", At(1)),
+        Member("name", At(7)),
+        Member("number", At(3)),
+        Member("reason", At(6)),
+        Member("result", Fixed("drop")),
+        Member("segment", At(4)),
+        Member("source", At(2)),
     ],
 };
 
@@ -44,12 +47,12 @@ const DONE: Form = Form {
     words: &[Number, Text, Text, Number, NumberOrNothing, Is("done")],
     end: End::Here,
     members: &[
-        Member("event", Told::Word(0)),
-        Member("moment", Told::Word(1)),
-        Member("number", Told::Word(3)),
-        Member("result", Told::Fixed("done")),
-        Member("segment", Told::Word(4)),
-        Member("source", Told::Word(2)),
+        Member("event", At(0)),
+        Member("moment", At(1)),
+        Member("number", At(3)),
+        Member("result", Fixed("done")),
+        Member("segment", At(4)),
+        Member("source", At(2)),
     ],
 };
 
@@ -66,14 +69,14 @@ const REFUSED: Form = Form {
     ],
     end: End::Here,
     members: &[
-        Member("cause", Told::Word(6)),
-        Member("event", Told::Word(0)),
-        Member("moment", Told::Word(1)),
-        Member("name", Told::Word(7)),
-        Member("number", Told::Word(3)),
-        Member("result", Told::Fixed("refused")),
-        Member("segment", Told::Word(4)),
-        Member("source", Told::Word(2)),
+        Member("cause", At(6)),
+        Member("event", At(0)),
+        Member("moment", At(1)),
+        Member("name", At(7)),
+        Member("number", At(3)),
+        Member("result", Fixed("refused")),
+        Member("segment", At(4)),
+        Member("source", At(2)),
     ],
 };
 
@@ -81,11 +84,34 @@ const CUT: Form = Form {
     words: &[Is("cut"), Text, Number],
     end: End::Here,
     members: &[
-        Member("records", Told::Word(2)),
-        Member("result", Told::Fixed("cut")),
-        Member("source", Told::Word(1)),
+        Member("records", At(2)),
+        Member("result", Fixed("cut")),
+        Member("source", At(1)),
     ],
 };
 
+static EVENTS: [Form; 5] = [SENT, DROP, DONE, REFUSED, CUT];
+
 /// The lines of events, and of cut captures.
-pub(crate) static EVENTS: [Form; 5] = [EVENT_MOMENT, DROP, DONE, REFUSED, CUT];
+#[tactic(auto, using(json_laws::proofs::Whole::whole_forms))]
+pub(crate) fn event_forms() -> &'static [Form]
+    ensures { AreWhole result.now }
+{
+    &EVENTS
+}
+
+const FACT: Form = Form {
+    words: &[Is(""), Is("")],
+    end: End::Rest,
+    members: &[Member("fact", Told::Rest)],
+};
+
+static FACTS: [Form; 1] = [FACT];
+
+/// What the tests of an event saw, above its decision line.
+#[tactic(auto, using(json_laws::proofs::Whole::whole_forms))]
+pub(crate) fn fact_forms() -> &'static [Form]
+    ensures { AreWhole result.now }
+{
+    &FACTS
+}

@@ -1,57 +1,38 @@
 //! Lines of the layers of a packet.
+ghost use Rattle.json_laws.specs.ReadBack.{AreWhole};
+
+use json_lines::Told::Word as At;
 use json_lines::Word::{Is, Number, Text};
-use json_lines::{End, Form, Member, Told};
+use json_lines::{End, Form, Member};
 
-const PAYLOAD: Form = Form {
-    words: &[Is(""), Is(""), Is("payload"), Number, Number],
+/// A layer of any kind without its values.
+const LAYER: Form = Form {
+    words: &[Is(""), Is(""), Text, Number, Number],
     end: End::Here,
     members: &[
-        Member("length", Told::Word(4)),
-        Member("part", Told::Fixed("payload")),
-        Member("place", Told::Word(3)),
-    ],
-};
-
-const TAIL: Form = Form {
-    words: &[Is(""), Is(""), Is("tail"), Number, Number],
-    end: End::Here,
-    members: &[
-        Member("length", Told::Word(4)),
-        Member("part", Told::Fixed("tail")),
-        Member("place", Told::Word(3)),
+        Member("length", At(4)),
+        Member("part", At(2)),
+        Member("place", At(3)),
     ],
 };
 
 const STOP_DEEP: Form = Form {
     words: &[Is(""), Is(""), Is("stop"), Is("Deep")],
     end: End::Here,
-    members: &[
-        Member("name", Told::Fixed("Deep")),
-        Member("part", Told::Fixed("stop")),
-    ],
+    members: &[Member("name", At(3)), Member("part", At(2))],
 };
 
 const STOP: Form = Form {
     words: &[Is(""), Is(""), Is("stop"), Number, Text],
     end: End::Here,
     members: &[
-        Member("name", Told::Word(4)),
-        Member("part", Told::Fixed("stop")),
-        Member("reason", Told::Word(3)),
+        Member("name", At(4)),
+        Member("part", At(2)),
+        Member("reason", At(3)),
     ],
 };
 
 const ETHER: Form = Form {
-    words: &[Is(""), Is(""), Is("ether"), Number, Number],
-    end: End::Here,
-    members: &[
-        Member("length", Told::Word(4)),
-        Member("part", Told::Fixed("ether")),
-        Member("place", Told::Word(3)),
-    ],
-};
-
-const ETHER_2: Form = Form {
     words: &[
         Is(""),
         Is(""),
@@ -64,25 +45,15 @@ const ETHER_2: Form = Form {
     ],
     end: End::Here,
     members: &[
-        Member("destination", Told::Word(7)),
-        Member("length", Told::Word(4)),
-        Member("part", Told::Fixed("ether")),
-        Member("place", Told::Word(3)),
-        Member("source", Told::Word(5)),
+        Member("destination", At(7)),
+        Member("length", At(4)),
+        Member("part", At(2)),
+        Member("place", At(3)),
+        Member("source", At(5)),
     ],
 };
 
 const TAG: Form = Form {
-    words: &[Is(""), Is(""), Is("tag"), Number, Number],
-    end: End::Here,
-    members: &[
-        Member("length", Told::Word(4)),
-        Member("part", Told::Fixed("tag")),
-        Member("place", Told::Word(3)),
-    ],
-};
-
-const TAG_VID_PCP_DEI: Form = Form {
     words: &[
         Is(""),
         Is(""),
@@ -99,48 +70,28 @@ const TAG_VID_PCP_DEI: Form = Form {
     ],
     end: End::Here,
     members: &[
-        Member("dei", Told::Word(11)),
-        Member("length", Told::Word(4)),
-        Member("part", Told::Fixed("tag")),
-        Member("pcp", Told::Word(9)),
-        Member("place", Told::Word(3)),
-        Member("type", Told::Word(5)),
-        Member("vid", Told::Word(7)),
+        Member("dei", At(11)),
+        Member("length", At(4)),
+        Member("part", At(2)),
+        Member("pcp", At(9)),
+        Member("place", At(3)),
+        Member("type", At(5)),
+        Member("vid", At(7)),
     ],
 };
 
 const TYPE: Form = Form {
-    words: &[Is(""), Is(""), Is("type"), Number, Number],
-    end: End::Here,
-    members: &[
-        Member("length", Told::Word(4)),
-        Member("part", Told::Fixed("type")),
-        Member("place", Told::Word(3)),
-    ],
-};
-
-const TYPE_2: Form = Form {
     words: &[Is(""), Is(""), Is("type"), Number, Number, Text],
     end: End::Here,
     members: &[
-        Member("length", Told::Word(4)),
-        Member("part", Told::Fixed("type")),
-        Member("place", Told::Word(3)),
-        Member("type", Told::Word(5)),
+        Member("length", At(4)),
+        Member("part", At(2)),
+        Member("place", At(3)),
+        Member("type", At(5)),
     ],
 };
 
 const IP4: Form = Form {
-    words: &[Is(""), Is(""), Is("ip4"), Number, Number],
-    end: End::Here,
-    members: &[
-        Member("length", Told::Word(4)),
-        Member("part", Told::Fixed("ip4")),
-        Member("place", Told::Word(3)),
-    ],
-};
-
-const IP4_TTL_LENGTH: Form = Form {
     words: &[
         Is(""),
         Is(""),
@@ -159,29 +110,170 @@ const IP4_TTL_LENGTH: Form = Form {
     ],
     end: End::Here,
     members: &[
-        Member("destination", Told::Word(7)),
-        Member("ip_length", Told::Word(11)),
-        Member("length", Told::Word(4)),
-        Member("part", Told::Fixed("ip4")),
-        Member("place", Told::Word(3)),
-        Member("protocol", Told::Word(13)),
-        Member("source", Told::Word(5)),
-        Member("ttl", Told::Word(9)),
+        Member("destination", At(7)),
+        Member("ip_length", At(11)),
+        Member("length", At(4)),
+        Member("part", At(2)),
+        Member("place", At(3)),
+        Member("protocol", At(13)),
+        Member("source", At(5)),
+        Member("ttl", At(9)),
     ],
 };
 
-/// The layers of a packet, below its decision line.
-pub(crate) static LAYERS: [Form; 12] = [
-    PAYLOAD,
-    TAIL,
+const IP4_FRAGMENT: Form = Form {
+    words: &[
+        Is(""),
+        Is(""),
+        Is("ip4"),
+        Number,
+        Number,
+        Text,
+        Is(">"),
+        Text,
+        Is("ttl"),
+        Number,
+        Is("length"),
+        Number,
+        Is("protocol"),
+        Number,
+        Is("offset"),
+        Number,
+        Is("more"),
+        Number,
+    ],
+    end: End::Here,
+    members: &[
+        Member("destination", At(7)),
+        Member("ip_length", At(11)),
+        Member("length", At(4)),
+        Member("more", At(17)),
+        Member("offset", At(15)),
+        Member("part", At(2)),
+        Member("place", At(3)),
+        Member("protocol", At(13)),
+        Member("source", At(5)),
+        Member("ttl", At(9)),
+    ],
+};
+
+const IP6: Form = Form {
+    words: &[
+        Is(""),
+        Is(""),
+        Is("ip6"),
+        Number,
+        Number,
+        Text,
+        Is(">"),
+        Text,
+        Is("hop-limit"),
+        Number,
+        Is("length"),
+        Number,
+        Is("next-header"),
+        Number,
+    ],
+    end: End::Here,
+    members: &[
+        Member("destination", At(7)),
+        Member("hop_limit", At(9)),
+        Member("ip_length", At(11)),
+        Member("length", At(4)),
+        Member("next_header", At(13)),
+        Member("part", At(2)),
+        Member("place", At(3)),
+        Member("source", At(5)),
+    ],
+};
+
+const UDP: Form = Form {
+    words: &[
+        Is(""),
+        Is(""),
+        Is("udp"),
+        Number,
+        Number,
+        Number,
+        Is(">"),
+        Number,
+        Is("length"),
+        Number,
+        Is("checksum"),
+        Text,
+    ],
+    end: End::Here,
+    members: &[
+        Member("checksum", At(11)),
+        Member("destination_port", At(7)),
+        Member("length", At(4)),
+        Member("part", At(2)),
+        Member("place", At(3)),
+        Member("source_port", At(5)),
+        Member("udp_length", At(9)),
+    ],
+};
+
+const VXLAN: Form = Form {
+    words: &[
+        Is(""),
+        Is(""),
+        Is("vxlan"),
+        Number,
+        Number,
+        Is("vni"),
+        Number,
+    ],
+    end: End::Here,
+    members: &[
+        Member("length", At(4)),
+        Member("part", At(2)),
+        Member("place", At(3)),
+        Member("vni", At(6)),
+    ],
+};
+
+const GENEVE: Form = Form {
+    words: &[
+        Is(""),
+        Is(""),
+        Is("geneve"),
+        Number,
+        Number,
+        Is("vni"),
+        Number,
+        Is("options"),
+        Number,
+    ],
+    end: End::Here,
+    members: &[
+        Member("length", At(4)),
+        Member("options", At(8)),
+        Member("part", At(2)),
+        Member("place", At(3)),
+        Member("vni", At(6)),
+    ],
+};
+
+static LAYERS: [Form; 12] = [
+    LAYER,
     STOP_DEEP,
     STOP,
     ETHER,
-    ETHER_2,
     TAG,
-    TAG_VID_PCP_DEI,
     TYPE,
-    TYPE_2,
     IP4,
-    IP4_TTL_LENGTH,
+    IP4_FRAGMENT,
+    IP6,
+    UDP,
+    VXLAN,
+    GENEVE,
 ];
+
+/// The layers of a packet, below its decision line.
+#[tactic(auto, using(json_laws::proofs::Whole::whole_forms))]
+pub(crate) fn layer_forms() -> &'static [Form]
+    ensures { AreWhole result.now }
+{
+    &LAYERS
+}

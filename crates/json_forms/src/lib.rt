@@ -2,26 +2,25 @@
 //!
 //! Use first: [`objects_of`] tells a text of a [`Kind`], one object for each line.
 //!
-//! It has no specs of its own: which lines are of a form, and what their objects are, `json_lines` says.
+//! Specs to read: `specs/Telling`, above those of `json_lines` and `json_laws`.
 //!
-//! Proved: each function is safe and ends. That a text is told line by line, and none left out, is the contract of
-//! `json_lines::objects_of`; that the forms say what `docs/FORMATS.md` says of each kind of line is tested.
+//! Proved: a text is told line by line, and none left out, as exactly the objects of `json_lines` by tables of forms, and each form
+//! of each table is whole: its members tell each word that may be another in another line, and what stands behind the words. So
+//! two lines of one form with the same object are the same line (`json_laws`). That the forms say what `docs/FORMATS.md` says of
+//! each kind of line, and that lines of two forms have two objects, is tested.
 //!
-//! Why it is so: a form is a table and no code, so that one engine tells all texts, and a line of no form is told whole. The
-//! decisions of a run are told as they are made, by `decision_objects`; here are those of stories and explanations. A table has
-//! no more than some thirteen forms: what it is takes the prover more steps than it may take, where it has twice as many.
+//! Why it is so: a form is a table and no code, so that one engine tells all texts, and a line of no form is told whole. Whether a
+//! table's forms are whole is computed from it, and one that leaves out a word is refused. The decisions of a run are told as they
+//! are made, by `decision_objects`; here are those of stories and explanations. A table has no more than some thirteen forms: what
+//! it is takes the prover more steps than it may take, where it has twice as many.
 #![tactic(auto)]
 
 mod compared;
 mod counts;
-mod delays;
 mod events;
-mod facts;
-mod inner_layers;
 mod kind;
 mod layers;
-mod lonely_received;
-mod lonely_sent;
+mod lonely;
 mod looks;
 mod objects;
 mod tables;

@@ -1,17 +1,17 @@
 //! Lines of a look at texts and captures.
+ghost use Rattle.json_laws.specs.ReadBack.{AreWhole};
+
+use json_lines::Told::{Fixed, Word as At};
 use json_lines::Word::{Is, Number, Text, TextBefore};
 use json_lines::{End, Form, Member, Told};
 
-const BESIDE: Form = Form {
+const BELOW: Form = Form {
     words: &[Is(""), Is("")],
     end: End::Rest,
-    members: &[
-        Member("line", Told::Fixed("below")),
-        Member("note", Told::Rest),
-    ],
+    members: &[Member("line", Fixed("below")), Member("note", Told::Rest)],
 };
 
-const OK_PORTS_SEGMENTS_CHANGES: Form = Form {
+const OK: Form = Form {
     words: &[
         Is("ok:"),
         Number,
@@ -23,34 +23,44 @@ const OK_PORTS_SEGMENTS_CHANGES: Form = Form {
     ],
     end: End::Here,
     members: &[
-        Member("changes", Told::Word(5)),
-        Member("line", Told::Fixed("ok")),
-        Member("ports", Told::Word(1)),
-        Member("segments", Told::Word(3)),
+        Member("changes", At(5)),
+        Member("line", Fixed("ok")),
+        Member("ports", At(1)),
+        Member("segments", At(3)),
     ],
 };
 
-const CHANGE_AT_REFUSED: Form = Form {
+const REFUSED: Form = Form {
     words: &[
         Is("change"),
         Number,
         Is("at"),
-        Text,
+        TextBefore(b':'),
         Is("refused"),
         Number,
         Text,
     ],
     end: End::Here,
     members: &[
-        Member("cause", Told::Word(5)),
-        Member("change", Told::Word(1)),
-        Member("line", Told::Fixed("refused")),
-        Member("moment", Told::Word(3)),
-        Member("name", Told::Word(6)),
+        Member("cause", At(5)),
+        Member("change", At(1)),
+        Member("line", At(4)),
+        Member("moment", At(3)),
+        Member("name", At(6)),
     ],
 };
 
-const PCAP_ETHERNET: Form = Form {
+const PCAP_MEMBERS: &[Member] = &[
+    Member("kind", At(1)),
+    Member("line", Fixed("capture")),
+    Member("order", At(2)),
+    Member("place", At(0)),
+    Member("precision", At(3)),
+    Member("records", At(5)),
+];
+
+/// A capture of one record; the others are of none, or of several.
+const PCAP_OF_1: Form = Form {
     words: &[
         TextBefore(b':'),
         Is("pcap"),
@@ -58,20 +68,13 @@ const PCAP_ETHERNET: Form = Form {
         Text,
         Is("ethernet,"),
         Number,
-        Text,
+        Is("record"),
     ],
     end: End::Here,
-    members: &[
-        Member("kind", Told::Fixed("pcap")),
-        Member("line", Told::Fixed("capture")),
-        Member("order", Told::Word(2)),
-        Member("place", Told::Word(0)),
-        Member("precision", Told::Word(3)),
-        Member("records", Told::Word(5)),
-    ],
+    members: PCAP_MEMBERS,
 };
 
-const PCAP_ETHERNET_FIRST_LAST: Form = Form {
+const PCAP: Form = Form {
     words: &[
         TextBefore(b':'),
         Is("pcap"),
@@ -79,95 +82,173 @@ const PCAP_ETHERNET_FIRST_LAST: Form = Form {
         Text,
         Is("ethernet,"),
         Number,
+        Is("records"),
+    ],
+    end: End::Here,
+    members: PCAP_MEMBERS,
+};
+
+/// The same with the first moment and the last.
+const PCAP_SPAN_MEMBERS: &[Member] = &[
+    Member("first", At(8)),
+    Member("kind", At(1)),
+    Member("last", At(10)),
+    Member("line", Fixed("capture")),
+    Member("order", At(2)),
+    Member("place", At(0)),
+    Member("precision", At(3)),
+    Member("records", At(5)),
+];
+
+const PCAP_SPAN_OF_1: Form = Form {
+    words: &[
+        TextBefore(b':'),
+        Is("pcap"),
         Text,
+        Text,
+        Is("ethernet,"),
+        Number,
+        Is("record,"),
         Is("first"),
         TextBefore(b','),
         Is("last"),
         Text,
     ],
     end: End::Here,
-    members: &[
-        Member("first", Told::Word(8)),
-        Member("kind", Told::Fixed("pcap")),
-        Member("last", Told::Word(10)),
-        Member("line", Told::Fixed("capture")),
-        Member("order", Told::Word(2)),
-        Member("place", Told::Word(0)),
-        Member("precision", Told::Word(3)),
-        Member("records", Told::Word(5)),
-    ],
+    members: PCAP_SPAN_MEMBERS,
 };
 
-const PCAPNG_ETHERNET: Form = Form {
+const PCAP_SPAN: Form = Form {
     words: &[
         TextBefore(b':'),
-        Is("pcapng"),
+        Is("pcap"),
+        Text,
+        Text,
         Is("ethernet,"),
         Number,
-        Text,
-    ],
-    end: End::Here,
-    members: &[
-        Member("kind", Told::Fixed("pcapng")),
-        Member("line", Told::Fixed("capture")),
-        Member("place", Told::Word(0)),
-        Member("records", Told::Word(3)),
-    ],
-};
-
-const PCAPNG_ETHERNET_FIRST_LAST: Form = Form {
-    words: &[
-        TextBefore(b':'),
-        Is("pcapng"),
-        Is("ethernet,"),
-        Number,
-        Text,
+        Is("records,"),
         Is("first"),
         TextBefore(b','),
         Is("last"),
         Text,
     ],
     end: End::Here,
-    members: &[
-        Member("first", Told::Word(6)),
-        Member("kind", Told::Fixed("pcapng")),
-        Member("last", Told::Word(8)),
-        Member("line", Told::Fixed("capture")),
-        Member("place", Told::Word(0)),
-        Member("records", Told::Word(3)),
-    ],
+    members: PCAP_SPAN_MEMBERS,
 };
 
-const PLACE_COUNT: Form = Form {
+const PCAPNG_MEMBERS: &[Member] = &[
+    Member("kind", At(1)),
+    Member("line", Fixed("capture")),
+    Member("place", At(0)),
+    Member("records", At(3)),
+];
+
+const PCAPNG_OF_1: Form = Form {
+    words: &[
+        TextBefore(b':'),
+        Is("pcapng"),
+        Is("ethernet,"),
+        Number,
+        Is("record"),
+    ],
+    end: End::Here,
+    members: PCAPNG_MEMBERS,
+};
+
+const PCAPNG: Form = Form {
+    words: &[
+        TextBefore(b':'),
+        Is("pcapng"),
+        Is("ethernet,"),
+        Number,
+        Is("records"),
+    ],
+    end: End::Here,
+    members: PCAPNG_MEMBERS,
+};
+
+const PCAPNG_SPAN_MEMBERS: &[Member] = &[
+    Member("first", At(6)),
+    Member("kind", At(1)),
+    Member("last", At(8)),
+    Member("line", Fixed("capture")),
+    Member("place", At(0)),
+    Member("records", At(3)),
+];
+
+const PCAPNG_SPAN_OF_1: Form = Form {
+    words: &[
+        TextBefore(b':'),
+        Is("pcapng"),
+        Is("ethernet,"),
+        Number,
+        Is("record,"),
+        Is("first"),
+        TextBefore(b','),
+        Is("last"),
+        Text,
+    ],
+    end: End::Here,
+    members: PCAPNG_SPAN_MEMBERS,
+};
+
+const PCAPNG_SPAN: Form = Form {
+    words: &[
+        TextBefore(b':'),
+        Is("pcapng"),
+        Is("ethernet,"),
+        Number,
+        Is("records,"),
+        Is("first"),
+        TextBefore(b','),
+        Is("last"),
+        Text,
+    ],
+    end: End::Here,
+    members: PCAPNG_SPAN_MEMBERS,
+};
+
+const COUNTED_NOTE: Form = Form {
     words: &[TextBefore(b':'), Number],
     end: End::Rest,
     members: &[
-        Member("count", Told::Word(1)),
-        Member("line", Told::Fixed("note")),
+        Member("count", At(1)),
+        Member("line", Fixed("note")),
         Member("note", Told::Rest),
-        Member("place", Told::Word(0)),
+        Member("place", At(0)),
     ],
 };
 
-const PLACE: Form = Form {
+const NOTE: Form = Form {
     words: &[TextBefore(b':')],
     end: End::Rest,
     members: &[
-        Member("line", Told::Fixed("note")),
+        Member("line", Fixed("note")),
         Member("note", Told::Rest),
-        Member("place", Told::Word(0)),
+        Member("place", At(0)),
     ],
 };
 
-/// The lines of what is in texts and captures.
-pub(crate) static LOOKS: [Form; 9] = [
-    BESIDE,
-    OK_PORTS_SEGMENTS_CHANGES,
-    CHANGE_AT_REFUSED,
-    PCAP_ETHERNET,
-    PCAP_ETHERNET_FIRST_LAST,
-    PCAPNG_ETHERNET,
-    PCAPNG_ETHERNET_FIRST_LAST,
-    PLACE_COUNT,
-    PLACE,
+static LOOKS: [Form; 13] = [
+    BELOW,
+    OK,
+    REFUSED,
+    PCAP_OF_1,
+    PCAP,
+    PCAP_SPAN_OF_1,
+    PCAP_SPAN,
+    PCAPNG_OF_1,
+    PCAPNG,
+    PCAPNG_SPAN_OF_1,
+    PCAPNG_SPAN,
+    COUNTED_NOTE,
+    NOTE,
 ];
+
+/// The lines of what is in texts and captures.
+#[tactic(auto, using(json_laws::proofs::Whole::whole_forms))]
+pub(crate) fn look_forms() -> &'static [Form]
+    ensures { AreWhole result.now }
+{
+    &LOOKS
+}

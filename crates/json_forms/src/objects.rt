@@ -1,34 +1,49 @@
 //! Texts told as objects.
+ghost use Rattle.std.specs.Prelude.{IfOk};
+ghost use Rattle.json_forms.specs.Telling.{AllWhole, Tells};
+
 use crate::Kind;
-use crate::compared::COMPARED;
-use crate::counts::COUNTS;
-use crate::delays::DELAYS;
-use crate::events::EVENTS;
-use crate::facts::FACTS;
-use crate::inner_layers::INNER_LAYERS;
-use crate::layers::LAYERS;
-use crate::lonely_received::LONELY_RECEIVED;
-use crate::lonely_sent::LONELY_SENT;
-use crate::looks::LOOKS;
-use crate::tables::TABLES;
-use json_lines::objects_of as objects_by;
+use crate::compared::{compared_forms, delay_forms};
+use crate::counts::count_forms;
+use crate::events::{event_forms, fact_forms};
+use crate::layers::layer_forms;
+use crate::lonely::{lonely_received_forms, lonely_sent_forms};
+use crate::looks::look_forms;
+use crate::tables::entry_forms;
+use json_lines::{Form, objects_of as objects_by};
 use std::alloc::{AllocError, Global};
 
 /// The object of each line of a text of this kind, a line each. `AllocError`: there was no memory for them.
-pub fn objects_of(alloc: Global, kind: Kind, text: &[u8]) -> Result<Vec<u8>, AllocError> {
+pub fn objects_of(alloc: Global, kind: Kind, text: &[u8]) -> Result<Vec<u8>, AllocError>
+    ensures { IfOk result (λ v. Tells v.items text.now) }
+{
     match kind {
-        Kind::Events => objects_by(
+        Kind::Events => tell(
             alloc,
-            &[&EVENTS, &TABLES, &LAYERS, &INNER_LAYERS, &FACTS],
+            &[event_forms(), entry_forms(), layer_forms(), fact_forms()],
             text,
         ),
-        Kind::Tables => objects_by(alloc, &[&TABLES], text),
-        Kind::Counts => objects_by(alloc, &[&COUNTS], text),
-        Kind::Looks => objects_by(alloc, &[&LOOKS], text),
-        Kind::Compared => objects_by(
+        Kind::Tables => tell(alloc, &[entry_forms()], text),
+        Kind::Counts => tell(alloc, &[count_forms()], text),
+        Kind::Looks => tell(alloc, &[look_forms()], text),
+        Kind::Compared => tell(
             alloc,
-            &[&COMPARED, &DELAYS, &LONELY_SENT, &LONELY_RECEIVED],
+            &[
+                compared_forms(),
+                delay_forms(),
+                lonely_sent_forms(),
+                lonely_received_forms(),
+            ],
             text,
         ),
     }
+}
+
+/// The same by tables of whole forms.
+#[tactic(auto, unfolding(crate::specs::Telling::Tells))]
+fn tell(alloc: Global, tables: &[&'static [Form]], text: &[u8]) -> Result<Vec<u8>, AllocError>
+    requires { AllWhole tables.now }
+    ensures { IfOk result (λ v. Tells v.items text.now) }
+{
+    objects_by(alloc, tables, text)
 }

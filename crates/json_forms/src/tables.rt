@@ -1,19 +1,22 @@
 //! Lines of tables.
-use json_lines::Word::{Is, Number, Text};
-use json_lines::{End, Form, Member, Told};
+ghost use Rattle.json_laws.specs.ReadBack.{AreWhole};
 
-const SEGMENT_FIXED: Form = Form {
+use json_lines::Told::{Fixed, Word as At};
+use json_lines::Word::{Is, Number, Text};
+use json_lines::{End, Form, Member};
+
+const FIXED: Form = Form {
     words: &[Is("segment"), Number, Text, Text, Is("fixed")],
     end: End::Here,
     members: &[
-        Member("address", Told::Word(2)),
-        Member("line", Told::Fixed("fixed")),
-        Member("place", Told::Word(3)),
-        Member("segment", Told::Word(1)),
+        Member("address", At(2)),
+        Member("line", Fixed("fixed")),
+        Member("place", At(3)),
+        Member("segment", At(1)),
     ],
 };
 
-const SEGMENT_SEEN_AGE: Form = Form {
+const LEARNED: Form = Form {
     words: &[
         Is("segment"),
         Number,
@@ -26,14 +29,21 @@ const SEGMENT_SEEN_AGE: Form = Form {
     ],
     end: End::Here,
     members: &[
-        Member("address", Told::Word(2)),
-        Member("age", Told::Word(7)),
-        Member("line", Told::Fixed("learned")),
-        Member("moment", Told::Word(5)),
-        Member("place", Told::Word(3)),
-        Member("segment", Told::Word(1)),
+        Member("address", At(2)),
+        Member("age", At(7)),
+        Member("line", Fixed("learned")),
+        Member("moment", At(5)),
+        Member("place", At(3)),
+        Member("segment", At(1)),
     ],
 };
 
+static TABLES: [Form; 2] = [FIXED, LEARNED];
+
 /// The entries of tables.
-pub(crate) static TABLES: [Form; 2] = [SEGMENT_FIXED, SEGMENT_SEEN_AGE];
+#[tactic(auto, using(json_laws::proofs::Whole::whole_forms))]
+pub(crate) fn entry_forms() -> &'static [Form]
+    ensures { AreWhole result.now }
+{
+    &TABLES
+}

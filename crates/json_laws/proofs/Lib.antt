@@ -1,2 +1,3 @@
 pub mod SameLines
 pub mod SameTexts
+pub mod Whole

@@ -1,7 +1,8 @@
 -- The law of reading: the words of a line come back from its object. It states no standard.
 --     IsWordTold      a word of a form is told, unless it is the same in each line
 --     IsWhole      a form's members tell all that may be another in another line
-use Rattle.std.specs.Prelude.{◌≡◌, ℕ, true, List, map, Contains, Some, slice_get}
+--     AreWhole      and so those of each form of a table
+use Rattle.std.specs.Prelude.{◌≡◌, ℕ, true, List, map, All, Contains, Some, slice_get}
 use Rattle.serde_json.specs.Data.{object}
 use Rattle.serde_json.specs.Written.{compact_text}
 use Rattle.json_lines.specs.Outcomes.{words}
@@ -39,6 +40,10 @@ IsEndTold members ends.Outcomes = IsTold members told.Outcomes
 pub record IsWhole (form : Form) : Type 0 where
   pub each_word : (at : ℕ) (kind : Word) → slice_get form.words.now at ≡ Some kind → IsWordTold form.members.now at kind
   pub behind_words : IsEndTold form.members.now form.end
+
+-- a table of such forms
+unfoldable pub AreWhole : List Form → Type 0
+AreWhole forms = All IsWhole forms
 
 -- two lines of such a form with the same object are the same line
 abbrev pub ReadsBack : Type 0

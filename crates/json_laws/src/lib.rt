@@ -2,7 +2,8 @@
 //!
 //! Use first: [`laws::lines_read_back`] says that nothing of a line is lost in its object.
 //!
-//! Specs to read: `specs/ReadBack`, which says when a form's members tell all of a line.
+//! Specs to read: `specs/ReadBack`, which says when a form's members tell all of a line. `proofs/Whole` finds that by computing,
+//! for the tables of other crates.
 //!
 //! Proved: of a form whose members tell each word that may be another in another line, and what stands behind the words, two
 //! lines with the same object are the same line, octet for octet; and so are two whose objects have the same text.

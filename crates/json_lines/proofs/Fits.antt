@@ -32,9 +32,9 @@ word_fitting (k ∷ ks) (w ∷ ws) zero d h lt = (both (word_fits k w) (words_fi
 word_fitting (k ∷ ks) (w ∷ ws) (suc at) d h lt = word_fitting ks ws at d (both (word_fits k w) (words_fit ks ws) h).1 (omega arith)
 
 -- its parts
-pub fits_few : (form : Form) (ws : List (List ℕ)) → fits form ws ≡ true → length form.words.now ≤ 16
+pub fits_few : (form : Form) (ws : List (List ℕ)) → fits form ws ≡ true → length form.words.now ≤ 18
 unfolding fits
-fits_few form ws h = leb-true (length form.words.now) 16 (both _ _ h).0
+fits_few form ws h = leb-true (length form.words.now) 18 (both _ _ h).0
 
 pub fits_words : (form : Form) (ws : List (List ℕ)) → fits form ws ≡ true → words_fit form.words.now ws ≡ true
 unfolding fits
@@ -55,28 +55,28 @@ find_fits ws (f ∷ fs) form e = by (fits f ws) refl e (find_fits ws fs form)
 
 -- ---- whether a line is of a form, by the words that were found
 
-pub fits_long : (form : Form) (ws : List (List ℕ)) → 16 < length form.words.now → false ≡ fits form ws
+pub fits_long : (form : Form) (ws : List (List ℕ)) → 18 < length form.words.now → false ≡ fits form ws
 unfolding fits
 fits_long form ws long =
-    let e : nat_le (length form.words.now) 16 ≡ false = grind (arith, nat_tests) in
+    let e : nat_le (length form.words.now) 18 ≡ false = grind (arith, nat_tests) in
     sym (ap (λ b. b && (words_fit form.words.now ws && end_fits form.end (drop (length form.words.now) ws))) e)
 
-by_words : (form : Form) (ws : List (List ℕ)) (b : Bool) → length form.words.now ≤ 16 → b ≡ words_fit form.words.now (take 17 ws)
+by_words : (form : Form) (ws : List (List ℕ)) (b : Bool) → length form.words.now ≤ 18 → b ≡ words_fit form.words.now (take 19 ws)
     → fits form ws ≡ (b && end_fits form.end (drop (length form.words.now) ws))
 unfolding fits
 by_words form ws b few found =
-    ap (λ q. q && (words_fit form.words.now ws && end_fits form.end (drop (length form.words.now) ws))) (le-leb (length form.words.now) 16 few)
-    ∙ ap (λ q. q && end_fits form.end (drop (length form.words.now) ws)) (sym (found ∙ few_words form.words.now ws 17 (omega (arith, few))))
+    ap (λ q. q && (words_fit form.words.now ws && end_fits form.end (drop (length form.words.now) ws))) (le-leb (length form.words.now) 18 few)
+    ∙ ap (λ q. q && end_fits form.end (drop (length form.words.now) ws)) (sym (found ∙ few_words form.words.now ws 19 (omega (arith, few))))
 
-pub fits_both : (form : Form) (ws : List (List ℕ)) (items : List Piece) (behind : List (List ℕ)) (b r : Bool) → length form.words.now ≤ 16
-    → map piece_of items ≡ take 17 (tails ws) → b ≡ words_fit form.words.now (map (λ p. p.word.now) items) → b ≡ true
+pub fits_both : (form : Form) (ws : List (List ℕ)) (items : List Piece) (behind : List (List ℕ)) (b r : Bool) → length form.words.now ≤ 18
+    → map piece_of items ≡ take 19 (tails ws) → b ≡ words_fit form.words.now (map (λ p. p.word.now) items) → b ≡ true
     → behind ≡ drop (length form.words.now) ws → r ≡ end_fits form.end behind → r ≡ fits form ws
 fits_both form ws items behind b r few found is right from ends =
     ends ∙ ap (end_fits form.end) from
     ∙ sym (by_words form ws b few (is ∙ ap (words_fit form.words.now) (words_found items ws found)) ∙ ap (λ q. q && end_fits form.end (drop (length form.words.now) ws)) right)
 
-pub fits_not : (form : Form) (ws : List (List ℕ)) (items : List Piece) (b : Bool) → length form.words.now ≤ 16
-    → map piece_of items ≡ take 17 (tails ws) → b ≡ words_fit form.words.now (map (λ p. p.word.now) items) → b ≡ false → b ≡ fits form ws
+pub fits_not : (form : Form) (ws : List (List ℕ)) (items : List Piece) (b : Bool) → length form.words.now ≤ 18
+    → map piece_of items ≡ take 19 (tails ws) → b ≡ words_fit form.words.now (map (λ p. p.word.now) items) → b ≡ false → b ≡ fits form ws
 fits_not form ws items b few found is wrong =
     wrong ∙ sym (by_words form ws b few (is ∙ ap (words_fit form.words.now) (words_found items ws found)) ∙ ap (λ q. q && end_fits form.end (drop (length form.words.now) ws)) wrong)
 

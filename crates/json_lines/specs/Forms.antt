@@ -45,7 +45,7 @@ end_fits ends.Outcomes ws = nat_lt 0 (length ws) && list_all is_outcome ws
 
 -- a line of these words is of the form
 unfoldable pub fits : Form → List (List ℕ) → Bool
-fits form ws = nat_le (length form.words.now) 16 && (words_fit form.words.now ws && end_fits form.end (drop (length form.words.now) ws))
+fits form ws = nat_le (length form.words.now) 18 && (words_fit form.words.now ws && end_fits form.end (drop (length form.words.now) ws))
 
 -- the first form that a line of these words is of
 abbrev pub form_of : List Form → List (List ℕ) → Option Form

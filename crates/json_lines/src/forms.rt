@@ -47,7 +47,7 @@ pub enum Told {
 #[derive(Clone, Copy, Debug)]
 pub struct Member(pub &'static str, pub Told);
 
-/// One kind of line: its words, of which there are at most 16, what stands behind them, and the members of its object in the
+/// One kind of line: its words, of which there are at most 18, what stands behind them, and the members of its object in the
 /// order in which they are told. No line is of a form with more words.
 #[derive(Clone, Copy, Debug)]
 pub struct Form {

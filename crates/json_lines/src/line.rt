@@ -9,7 +9,7 @@ use arrayvec::ArrayVec;
 use std::marker::Model;
 
 /// The most words that a form has.
-pub(crate) const MOST_WORDS: usize = 16;
+pub(crate) const MOST_WORDS: usize = 18;
 
 /// How many words of a line are found: those of a form, and one behind them.
 const MOST_PIECES: usize = MOST_WORDS + 1;
@@ -37,7 +37,7 @@ impl<'a> Model for Line<'a> {
 
     ghost view = { λ l. l.line.now };
 
-    ghost invariant = { λ l. map piece_of l.pieces.items ≡ take 17 (tails (words l.line.now)) };
+    ghost invariant = { λ l. map piece_of l.pieces.items ≡ take 19 (tails (words l.line.now)) };
 }
 
 impl<'a> Line<'a> {
@@ -74,14 +74,14 @@ impl<'a> Line<'a> {
 
     /// The words that were found.
     pub(crate) fn found(&self) -> &[Piece<'a>]
-        ensures { map piece_of result.now ≡ take 17 (tails (words self.now)) }
+        ensures { map piece_of result.now ≡ take 19 (tails (words self.now)) }
     {
         self.pieces.as_slice()
     }
 
     /// The word of this place, from 0, or an empty one.
     pub(crate) fn word(&self, at: usize) -> &'a [u8]
-        requires { at < 17 }
+        requires { at < 19 }
         ensures { result.now ≡ get_or (words self.now) at [] }
     {
         let pieces = self.found();
@@ -94,7 +94,7 @@ impl<'a> Line<'a> {
 
     /// What stands behind so many words, if there is a word more.
     pub(crate) fn behind(&self, count: usize) -> Option<&'a [u8]>
-        requires { count < 17 }
+        requires { count < 19 }
         ensures { words_behind result ≡ drop count (words self.now) }
     {
         let pieces = self.found();

@@ -1,7 +1,7 @@
 //! A number that is counted in decimal digits.
 ghost use Rattle.std.specs.Prelude.{◌≡◌, ℕ, ◌≤◌, ◌<◌, ◌+◌, ◌*◌, ◌^◌, ◌++◌, List, length, take, decimal};
 
-use crate::line::{Line, digits};
+use crate::line::digits;
 use itoa::write_digits;
 use std::marker::Model;
 
@@ -41,6 +41,41 @@ impl Counter {
         self.value
     }
 
+    /// Goes on to another number, which is mostly the same or the next.
+    #[inline]
+    pub fn go_to(&mut self, number: u64)
+        ensures { self.new ≡ number }
+    {
+        if self.value == number {
+            return;
+        }
+        if self.value < number && number - self.value == 1 {
+            self.add_one();
+        } else {
+            self.begin_at(number);
+        }
+    }
+
+    /// Begins anew at a number.
+    fn begin_at(&mut self, number: u64)
+        ensures { self.new ≡ number }
+    {
+        self.value = number;
+        self.len = write_whole(number, &mut self.digits);
+    }
+
+    /// Writes its digits at a place in a line's room, and answers where they end.
+    #[inline]
+    pub(crate) fn write_at(&self, room: &mut [u8; 65536], at: usize) -> usize
+        requires room { at + 20 ≤ 65536 }
+        ensures end { result ≡ at + length (decimal self.now) }
+        ensures within { result ≤ at + 20 }
+        ensures text { take result room.new ≡ take at room.old ++ decimal self.now }
+    {
+        room[at..at + 20].copy_from_slice(&self.digits);
+        at + self.len
+    }
+
     /// Adds one.
     #[inline(always)]
     pub fn add_one(&mut self)
@@ -54,18 +89,6 @@ impl Counter {
         } else {
             self.len = write_whole(self.value, &mut self.digits);
         }
-    }
-}
-
-impl Line {
-    /// Puts a counted number in decimal digits at the end.
-    #[inline]
-    pub(crate) fn put_counter(&mut self, counter: &Counter)
-        requires room { length self.old + 20 ≤ 65536 }
-        ensures text { self.new ≡ self.old ++ decimal counter.now }
-        ensures len { length self.new ≤ length self.old + 20 }
-    {
-        self.put_first(&counter.digits, counter.len);
     }
 }
 

@@ -39,7 +39,7 @@ impl Line {
         self.clear();
         self.put_counter(number);
         self.put_octet(b' ');
-        self.put_number(moment);
+        self.put_moment(moment);
         self.put_octet(b' ');
         self.put_source(source);
         self.put_octet(b' ');
@@ -47,7 +47,7 @@ impl Line {
 
     /// Puts where an event comes from.
     #[inline(always)]
-    fn put_source(&mut self, source: Source)
+    pub fn put_source(&mut self, source: Source)
         requires room { length self.old + 4 ≤ 65536 }
         ensures text { self.new ≡ self.old ++ source_word source }
         ensures len { length self.new ≤ length self.old + 4 }
@@ -60,7 +60,7 @@ impl Line {
 
     /// Puts where a capture is taken.
     #[inline(always)]
-    pub(crate) fn put_tap(&mut self, tap: Tap)
+    pub fn put_tap(&mut self, tap: Tap)
         requires room { length self.old + 4 ≤ 65536 }
         ensures text { self.new ≡ self.old ++ tap_word tap }
         ensures len { length self.new ≤ length self.old + 4 }

@@ -11,7 +11,7 @@
 //!
 //! Why it is so: the buffer has 65,536 octets and is cleared for each event. The longest line has 59,134, so every room is proved
 //! from its parts and writing a line can't fail. The number of the run's event is kept in its digits: one more mostly changes
-//! one octet. What a step needs (places, head, line) is made once for a run and lent.
+//! one octet; and so are the first digits of a moment. What a step needs (places, head, line) is made once for a run and lent.
 #![tactic(auto)]
 
 mod counter;

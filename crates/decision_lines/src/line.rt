@@ -6,6 +6,7 @@
 ghost use Rattle.std.specs.Prelude.{◌≡◌, ℕ, ◌≤◌, ◌<◌, ◌+◌, ◌/◌, ◌%◌, List, [], ◌∷◌, ◌++◌, length, take, decimal};
 ghost use Rattle.endpoint_core.specs.Text.{hex_digit, hex_octet};
 
+use crate::counter::Counter;
 use itoa::write_digits;
 use std::marker::Model;
 
@@ -32,6 +33,8 @@ static PAIRS: [[u8; 2]; 100] = [
 pub struct Line {
     octets: [u8; 65536],
     len: usize,
+    /// The latest moment that was put, without its last eight digits.
+    front: Counter,
 }
 
 impl Model for Line {
@@ -50,6 +53,7 @@ impl Line {
         Line {
             octets: [0; 65536],
             len: 0,
+            front: Counter::new(),
         }
     }
 
@@ -72,7 +76,7 @@ impl Line {
 
     /// Puts one octet at the end.
     #[inline]
-    pub(crate) fn put_octet(&mut self, octet: u8)
+    pub fn put_octet(&mut self, octet: u8)
         requires room { length self.old < 65536 }
         ensures text { self.new ≡ self.old ++ octet ∷ [] }
         ensures len { length self.new ≡ length self.old + 1 }
@@ -84,7 +88,7 @@ impl Line {
 
     /// Puts a text at the end.
     #[inline]
-    pub(crate) fn put_text(&mut self, text: &[u8])
+    pub fn put_text(&mut self, text: &[u8])
         requires room { length self.old + length text.now ≤ 65536 }
         ensures text { self.new ≡ self.old ++ text.now }
         ensures len { length self.new ≡ length self.old + length text.now }
@@ -96,7 +100,7 @@ impl Line {
 
     /// Puts a number in decimal digits at the end.
     #[inline(always)]
-    pub(crate) fn put_number(&mut self, number: u64)
+    pub fn put_number(&mut self, number: u64)
         requires room { length self.old + 20 ≤ 65536 }
         ensures text { self.new ≡ self.old ++ decimal number }
         ensures len { length self.new ≤ length self.old + 20 }
@@ -145,7 +149,7 @@ impl Line {
 
     /// Puts a number below 65,536 in decimal digits at the end.
     #[inline(always)]
-    pub(crate) fn put_short(&mut self, number: u16)
+    pub fn put_short(&mut self, number: u16)
         requires room { length self.old + 5 ≤ 65536 }
         ensures text { self.new ≡ self.old ++ decimal number }
         ensures len { length self.new ≤ length self.old + 5 }
@@ -163,7 +167,7 @@ impl Line {
 
     /// Puts a number below 256 in decimal digits at the end.
     #[inline]
-    pub(crate) fn put_small(&mut self, number: u8)
+    pub fn put_small(&mut self, number: u8)
         requires room { length self.old + 3 ≤ 65536 }
         ensures text { self.new ≡ self.old ++ decimal number }
         ensures len { length self.new ≤ length self.old + 3 }
@@ -205,17 +209,42 @@ impl Line {
         self.len = end;
     }
 
-    /// Puts the first octets of a short text that lies in a room of 20, which is copied whole.
+    /// Puts a counted number in decimal digits at the end.
     #[inline]
-    pub(crate) fn put_first(&mut self, octets: &[u8; 20], count: usize)
+    pub fn put_counter(&mut self, counter: &Counter)
         requires room { length self.old + 20 ≤ 65536 }
-        requires within { count ≤ 20 }
-        ensures text { self.new ≡ self.old ++ take count octets.now }
-        ensures len { length self.new ≡ length self.old + count }
+        ensures text { self.new ≡ self.old ++ decimal counter.now }
+        ensures len { length self.new ≤ length self.old + 20 }
     {
-        let len = self.len;
-        self.octets[len..len + 20].copy_from_slice(octets);
-        self.len = len + count;
+        self.len = counter.write_at(&mut self.octets, self.len);
+    }
+
+    /// Puts a moment in decimal digits at the end. Those in front of its last eight are mostly those of the latest moment that was
+    /// put, and are kept from it.
+    #[inline(always)]
+    pub fn put_moment(&mut self, moment: u64)
+        requires room { length self.old + 28 ≤ 65536 }
+        ensures text { self.new ≡ self.old ++ decimal moment }
+        ensures len { length self.new ≤ length self.old + 20 }
+    {
+        if moment < 100_000_000 {
+            return self.put_number(moment);
+        }
+        self.put_front(moment / 100_000_000);
+        let low = (moment % 100_000_000) as u32;
+        self.put_four((low / 10_000) as u16);
+        self.put_four((low % 10_000) as u16);
+    }
+
+    /// Puts the digits of a number, which are mostly those that are kept.
+    #[inline]
+    fn put_front(&mut self, number: u64)
+        requires room { length self.old + 20 ≤ 65536 }
+        ensures text { self.new ≡ self.old ++ decimal number }
+        ensures len { length self.new ≤ length self.old + 20 }
+    {
+        self.front.go_to(number);
+        self.len = self.front.write_at(&mut self.octets, self.len);
     }
 
     /// Puts an octet in two hexadecimal digits at the end.

@@ -10,7 +10,7 @@ use ip_udp_view::{Addr, Tunnel};
 impl Line {
     /// Puts a place: the number of a local port, or the address of a remote endpoint, behind the kind of its tunnel where
     /// the segment has two.
-    pub(crate) fn put_place(&mut self, two_tunnels: bool, place: Place)
+    pub fn put_place(&mut self, two_tunnels: bool, place: Place)
         requires room { length self.old + 55 ≤ 65536 }
         ensures text { self.new ≡ self.old ++ place_text two_tunnels place }
         ensures len { length self.new ≤ length self.old + 55 }

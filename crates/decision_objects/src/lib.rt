@@ -8,22 +8,20 @@
 //! failed at it; behind such a fault nothing more is written, and it is kept in mind. So behind a run of any events, or of a part
 //! of it, their objects were written, or a front of them (`laws::runs`). Whoever else looks on sees what it would alone.
 //!
-//! Why it is so: an object is put together in one line of 4,096 octets, straight from the decision, and what leaves is only
-//! measured. An object of more than 40 outcomes may go on in pieces, so that there is room for any number of them. No event asks
-//! for memory.
+//! Why it is so: an object is put together in the line of `decision_lines`, of 65,536 octets, straight from the decision, and what
+//! leaves is only measured. An object of more than 600 outcomes may go on in pieces, so that there is room for any number of them.
+//! The digits of an event's number are counted on. No event asks for memory.
 #![tactic(auto)]
 
 mod beside;
 pub mod laws;
-mod line;
 mod object;
 mod objects;
 mod origin;
 mod outcome;
 mod output;
-mod place;
 
 pub use beside::Beside;
-pub use line::ObjectLine;
+pub use object::{write_cut, write_drop, write_reply};
 pub use objects::Objects;
 pub use origin::Origin;

@@ -12,8 +12,10 @@ ghost use Rattle.endpoint_core.specs.Step.{Decided, Replied, has_two_tunnels, se
 ghost use Rattle.decision_objects.specs.Objects.{cut_object, object_text, outcomes_text, sent_object};
 ghost use Rattle.decision_objects.specs.Writing.{Grows, Tells};
 
-use crate::line::ObjectLine;
+use crate::object::{begin_sent, end_sent, write_cut, write_drop, write_reply};
 use crate::origin::Origin;
+use crate::outcome::put_sized;
+use decision_lines::{Counter, Line};
 use endpoint_core::{Came, ChangeFault, Endpoint};
 use filter_db::Place;
 use frame_view::{Refused, Vid};
@@ -21,15 +23,17 @@ use pcap_stream::Output;
 use std::marker::Model;
 use timeline::Cut;
 
-/// The most octets that an outcome has, with its comma, and what stands behind the last.
-const OUTCOME_AND_END: u16 = 149;
+/// Up to here in the line an outcome with its comma finds room, and what stands behind the last one: 98 octets and 51.
+const LAST_BEGIN: usize = 65536 - 149;
 
 /// An output of objects and the line in which they are put together, seen by contracts as what was told to the output, and the
 /// text of the line. Once a write has failed, or took none of some octets, nothing more is written.
 #[derive(Drop)]
 pub struct ObjectOutput<W: Output> {
     output: W,
-    line: ObjectLine,
+    line: Line,
+    /// The number of the latest event that was told.
+    number: Counter,
     is_failed: bool,
 }
 
@@ -51,7 +55,8 @@ impl<W: Output> ObjectOutput<W> {
     {
         ObjectOutput {
             output,
-            line: ObjectLine::new(),
+            line: Line::new(),
+            number: Counter::new(),
             is_failed: false,
         }
     }
@@ -87,9 +92,9 @@ impl<W: Output> ObjectOutput<W> {
             Tells self.old.told self.new.told
             (sent_object origin.now (Some came.now.vid) (has_two_tunnels S.overlay came.now.vid) outcomes) }
     {
-        self.line.begin_sent(origin);
+        begin_sent(&mut self.line, &mut self.number, origin);
         self.put_outcomes(endpoint, came, places);
-        self.line.end_sent(came.segment(), origin.source);
+        end_sent(&mut self.line, came.segment(), origin.source);
         self.hand_on();
     }
 
@@ -97,7 +102,7 @@ impl<W: Output> ObjectOutput<W> {
     pub fn write_drop(&mut self, origin: &Origin, refused: Refused)
         ensures { Tells self.old.told self.new.told (object_text origin.now None (Decided (refused_as refused))) }
     {
-        self.line.write_drop(origin, refused);
+        write_drop(&mut self.line, &mut self.number, origin, refused);
         self.hand_on();
     }
 
@@ -110,7 +115,7 @@ impl<W: Output> ObjectOutput<W> {
     )
         ensures { Tells self.old.told self.new.told (object_text origin.now named (Replied (fault_of reply))) }
     {
-        self.line.write_reply(origin, named, reply);
+        write_reply(&mut self.line, &mut self.number, origin, named, reply);
         self.hand_on();
     }
 
@@ -118,7 +123,7 @@ impl<W: Output> ObjectOutput<W> {
     pub fn write_cut(&mut self, cut: &Cut)
         ensures { Tells self.old.told self.new.told (cut_object cut.now) }
     {
-        self.line.write_cut(cut);
+        write_cut(&mut self.line, cut);
         self.hand_on();
     }
 
@@ -126,18 +131,24 @@ impl<W: Output> ObjectOutput<W> {
     fn put_outcomes(&mut self, endpoint: &Endpoint, came: &Came, places: &[Place])
         requires there { IsSome (segment_at (state_of endpoint.now).bridges.settings came.now.vid) }
         requires leave { IsTrue (list_all (can_leave (state_of endpoint.now).bridges.settings came.now.vid) places.now) }
-        requires room { length self.old.line + 51 ≤ 4096 }
+        requires room { length self.old.line + 51 ≤ 65536 }
         ensures grows { let S = (state_of endpoint.now).bridges.settings in
             let outcomes = map (sent_at S came.now.vid came.now.frame) places.now in
             Grows self.old self.new (outcomes_text (has_two_tunnels S.overlay came.now.vid) outcomes) }
-        ensures room { length self.new.line + 51 ≤ 4096 }
+        ensures room { length self.new.line + 51 ≤ 65536 }
     {
         let two_tunnels = endpoint.has_two_tunnels(came);
         let mut is_first = true;
         for place in places {
             self.make_room();
-            self.line
-                .put_sized(endpoint, came, is_first, two_tunnels, *place);
+            put_sized(
+                &mut self.line,
+                endpoint,
+                came,
+                is_first,
+                two_tunnels,
+                *place,
+            );
             is_first = false;
         }
     }
@@ -146,9 +157,9 @@ impl<W: Output> ObjectOutput<W> {
     #[inline]
     fn make_room(&mut self)
         ensures grows { Grows self.old self.new [] }
-        ensures room { length self.new.line + 149 ≤ 4096 }
+        ensures room { length self.new.line + 149 ≤ 65536 }
     {
-        if !self.line.has_room(OUTCOME_AND_END) {
+        if self.line.text().len() > LAST_BEGIN {
             self.hand_on();
         }
     }

@@ -1,5 +1,6 @@
 //! An object of each kind, and what an output that fails is left with.
-use decision_objects::{ObjectLine, Objects, Origin};
+use decision_lines::{Counter, Line};
+use decision_objects::{Objects, Origin, write_cut, write_drop, write_reply};
 use endpoint_core::{ChangeFault, Endpoint, Outlets};
 use frame_view::{Reason, Refused, Vid};
 use overlay_config::settings_of;
@@ -39,12 +40,12 @@ fn origin(event: u16, source: Source, number: u64) -> Origin {
 
 /// Whether a drop in this segment is told so.
 fn tells_drop(origin: &Origin, segment: u16, reason: Reason, expected: &str) -> bool {
-    let mut line = ObjectLine::new();
+    let mut line = Line::new();
     let refused = Refused {
         segment: Vid::new(segment),
         reason,
     };
-    line.write_drop(origin, refused);
+    write_drop(&mut line, &mut Counter::new(), origin, refused);
     line.text() == expected.as_bytes()
 }
 
@@ -73,8 +74,14 @@ fn tells_reply(
     reply: Result<(), ChangeFault>,
     expected: &str,
 ) -> bool {
-    let mut line = ObjectLine::new();
-    line.write_reply(origin, Vid::new(segment), reply);
+    let mut line = Line::new();
+    write_reply(
+        &mut line,
+        &mut Counter::new(),
+        origin,
+        Vid::new(segment),
+        reply,
+    );
     line.text() == expected.as_bytes()
 }
 
@@ -97,11 +104,12 @@ fn changes_are_told_with_their_segment(rt: HostRuntime) {
 
 #[test]
 fn cut_rests_are_told_with_their_whole_records(rt: HostRuntime) {
-    let mut line = ObjectLine::new();
-    line.write_cut(&Cut {
+    let mut line = Line::new();
+    let cut = Cut {
         tap: Tap::Port(1),
         whole: 7,
-    });
+    };
+    write_cut(&mut line, &cut);
     let expected = concat!(r#"{"records":7,"result":"cut","source":"p1"}"#, "\n");
     assert!(rt; line.text() == expected.as_bytes());
 }

@@ -17,7 +17,7 @@ loop-place-preserved g c =
     let places = c.args.places.now in
     let so_far = outcomes_text two (map sent (take i places)) in
     let more = gap c.loop-place.is_first ++ outcome_text two (sent (get_or places i (Local 0))) in
-    let line = c.put_sized.new.self in
+    let line = c.put_sized.new.line in
     let text : line ≡ c.self.inside.line ++ more =
     c.put_sized.ensures.text
     ∙ ap (λ (b : Bool). c.self.inside.line ++ (gap c.loop-place.is_first ++ outcome_text b (sent (get_or places i (Local 0))))) c.has_two_tunnels-two_tunnels.ensures in

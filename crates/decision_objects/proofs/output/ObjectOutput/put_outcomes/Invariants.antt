@@ -14,5 +14,5 @@ invariant-loop-place g l =
     record {
       grows : Grows l.fn.self l.self (outcomes_text (has_two_tunnels S.overlay l.came.vid) outcomes);
       first : l.is_first ≡ is_none l.place-index;
-      room : length l.self.line + 51 ≤ 4096;
+      room : length l.self.line + 51 ≤ 65536;
     }

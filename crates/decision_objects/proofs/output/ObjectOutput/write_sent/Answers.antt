@@ -15,10 +15,10 @@ returns g c =
     let front = codes "{" ++ event_text o ++ number_text o ++ codes ",\"outcomes\":[" in
     let behind = codes "],\"result\":\"sent\"" in
     let last = end_text (Some vid) o.source in
-    let tail : c.end_sent.new.self ≡ c.self-2.inside.line ++ (behind ++ last) =
+    let tail : c.end_sent.new.line ≡ c.self-2.inside.line ++ (behind ++ last) =
     c.end_sent.ensures ∙ ap (λ (n : ℕ). c.self-2.inside.line ++ (behind ++ end_text (Some n) o.source)) c.segment.ensures in
-    let text : (c.begin_sent.new.self ++ outcomes) ++ (behind ++ last) ≡ front ++ outcomes ++ behind ++ last =
+    let text : (c.begin_sent.new.line ++ outcomes) ++ (behind ++ last) ≡ front ++ outcomes ++ behind ++ last =
     ap (λ (t : List ℕ). (t ++ outcomes) ++ (behind ++ last)) c.begin_sent.ensures.text ∙ sym (append_assoc (front ++ outcomes) behind last) in
     subst (λ (t : List ℕ). Tells c.args.self.now.told c.hand_on.new.self.told t) text
-    (front_to_end c.args.self.now _ c.put_outcomes.new.self _ c.hand_on.new.self.told c.begin_sent.new.self c.end_sent.new.self outcomes (behind ++ last)
+    (front_to_end c.args.self.now _ c.put_outcomes.new.self _ c.hand_on.new.self.told c.begin_sent.new.line c.end_sent.new.line outcomes (behind ++ last)
     c.self.view_is c.self-2.view_is c.put_outcomes.ensures.grows tail c.hand_on.ensures.told)

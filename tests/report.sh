@@ -34,7 +34,7 @@ refused() {
 }
 captures=(examples/port1.pcap examples/port2.pcap examples/port3.pcap)
 a=(-s examples/a.toml -c examples/changes.toml -u examples/underlay.pcap)
-mkdir "$folder/out" "$folder/in" "$folder/every" "$folder/none" "$folder/few"
+mkdir "$folder/out" "$folder/in" "$folder/every" "$folder/many" "$folder/none" "$folder/few"
 ./tep run "${a[@]}" -o "$folder/out" --summary --tables --talkers "${captures[@]}" >"$folder/out/summary.txt"
 page_of "$folder/out"
 
@@ -46,6 +46,19 @@ ports=("$folder"/in/port[123].pcap "$folder/in/cut.pcap")
 ./tep run "${every[@]}" -o "$folder/every" --summary --tables --talkers "${ports[@]}" >"$folder/every/summary.txt"
 page_of "$folder/every"
 cp "$folder/page.html" "$folder/every.html"
+
+# Thirteen talks of each of three segments, in which three stations moved.
+cp "$folder/every/decisions.txt" "$folder/many"
+{
+    cat "$folder/every/summary.txt"
+    for segment in 4001 4002 4003; do
+        for talk in {0..12}; do
+            printf 'talk %d 02:00:00:00:00:0%d p%d > 02:00:00:00:00:ff flood 2 %d first %d last 9\n' \
+                "$segment" "$((talk % 7))" "$((talk / 10 + 1))" "$((9000 - talk))" "$talk"
+        done
+    done
+} >"$folder/many/summary.txt"
+page_of "$folder/many"
 cp "$folder/every/decisions.txt" "$folder/few"
 ./tep report -o "$folder/page.html" "$folder/few" || complain "a folder with decision lines alone has no page"
 grep -q -- '--talkers' "$folder/page.html" || complain "it isn't told which word tells who talks"

@@ -4,6 +4,7 @@
 The page is HTML whose elements are closed, it has no script and names nothing elsewhere, each picture has a title, and its numbers
 are those of the text that `tep run --summary --tables --talkers` printed (SUMMARY) and of the decision lines. What is wrong is
 told, and the status is 1."""
+import re
 import sys
 from collections import Counter
 from html.parser import HTMLParser
@@ -12,6 +13,8 @@ VOID = {"meta", "br", "hr"}
 ELSEWHERE = {"src", "srcset", "data", "action", "poster", "xlink:href"}
 FORBIDDEN = {"script", "link", "img", "iframe", "object", "embed", "base", "form", "audio", "video", "image", "use"}
 ASIDE = {"svg", "details"}
+TALK_HEADS = ["Segment", "Source", "From", "Destination", "To", "Frames", "Octets", "First frame, ns", "Last frame, ns"]
+ENTRY_HEADS = ["Segment", "Address", "Place", "Kept", "Moment, ns", "Age, s"]
 
 
 def complain(text):
@@ -100,6 +103,16 @@ def summary_of(path):
     return [line.split() for line in open(path, encoding="utf-8") if not line.startswith("  ")]
 
 
+def cells_of_talk(words):
+    """The cells of the line of a talk: talk 10 SOURCE p1 > DESTINATION p2 12 5120 first 1 last 9"""
+    return words[1:4] + words[5:9] + [words[10], words[12]]
+
+
+def cells_of_entry(words):
+    """The cells of an entry's line: segment 10 ADDRESS p1 fixed, or segment 10 ADDRESS p1 seen 1 age 3.000000000"""
+    return words[1:5] + ([words[5], words[7]] if words[4] == "seen" else ["", ""])
+
+
 def main():
     page_path, summary_path, decisions_path = sys.argv[1:]
     text = open(page_path, "rb").read().decode("utf-8")
@@ -145,11 +158,21 @@ def main():
     wanted = [[w[0], w[1], f"{w[2]}:{w[3]}", "none" if w[4] == "-" else w[4], f"{w[6]} {w[7]}"] for w in first]
     same("first drops", [row[:1] + row[2:6] for row in page.rows_of("first")], wanted)
     same("commands", [row[6] for row in page.rows_of("first")], [f"tep run .. --why {w[2]}:{w[3]}" for w in first])
-    entries = [w[1:4] for w in lines if w[0] == "segment" and w[-1] == "fixed" or len(w) > 4 and w[4] == "seen"]
-    same("entries", sorted(row[1:4] for row in page.rows_of("stations", "Tables", 0)), sorted(entries[:1000]))
     talks = [w for w in lines if w[0] == "talk" and w[1] != "others"]
-    talks = sorted((int(w[8]) for w in talks), reverse=True)[:50]
-    same("talks", [int(row[8]) for row in page.rows_of("stations", "Talks", 0)], talks)
+    of_segment, places = {}, {}
+    for w in talks:
+        of_segment.setdefault(w[1], []).append(w)
+        places.setdefault((w[1], w[2]), set()).add(w[3])
+    largest = [w for mine in of_segment.values() for w in sorted(mine, key=lambda w: -int(w[8]))[:10]]
+    moves = [w for w in talks if len(places[w[1], w[2]]) > 1]
+    entries = [w for w in lines if w[0] == "segment" and w[-1] == "fixed" or len(w) > 4 and w[4] == "seen"]
+    same("talks", page.rows_of("stations", "Talks"), [cells_of_talk(w) for w in largest])
+    same("moves", page.rows_of("stations", "Moves"), [cells_of_talk(w) for w in moves[:1000]])
+    same("entries", page.rows_of("stations", "Tables"), [cells_of_entry(w) for w in entries[:1000]])
+    told = dict(re.findall(r"<h3>(Talks|Moves|Tables)</h3>\n<p>.* Lines: (\d+);", text))
+    same("how many lines", told, {"Talks": str(len(talks)), "Moves": str(len(moves)), "Tables": str(len(entries))})
+    for heading, heads in (("Talks", TALK_HEADS), ("Moves", TALK_HEADS), ("Tables", ENTRY_HEADS)):
+        same(f"heads of {heading}", page.rows_of("stations", heading, 0)[:1], [heads])
 
 
 main()

@@ -3,4 +3,5 @@ pub mod Numbers
 pub mod Dates
 pub mod FirstLine
 pub mod Rows
+pub mod BySegment
 pub mod Markup

@@ -1,5 +1,5 @@
 -- The lines of a text, each ended by LF, but the last maybe by the end of the text. It states no standard.
-use Rattle.std.specs.Prelude.{ℕ, ◌==◌, if◌then◌else◌, List, [], ◌∷◌}
+use Rattle.std.specs.Prelude.{ℕ, ◌==◌, if◌then◌else◌, Bool, List, [], ◌∷◌, filter}
 use Rattle.std.specs.List.{onto_first}
 
 -- the first line of a text, and what stands behind its end
@@ -15,3 +15,7 @@ behind_line (c ∷ cs) = if c == 10 then cs else behind_line cs
 abbrev pub lines_of : List ℕ → List (List ℕ)
 lines_of [] = []
 lines_of (c ∷ cs) = if c == 10 then [] ∷ lines_of cs else onto_first c (lines_of cs)
+
+-- those that pass
+unfoldable pub lines_where : (List ℕ → Bool) → List ℕ → List (List ℕ)
+lines_where passes text = filter passes (lines_of text)

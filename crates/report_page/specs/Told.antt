@@ -1,21 +1,36 @@
 -- Stations and tables, of the lines that `tep run` printed with --talkers and --tables. It states no standard.
---     is_talk, is_entry      which lines are shown
+--     talks_of, moves_of, entries_of      which lines there are for each table
 --     told_text      all of it
-use Rattle.std.specs.Prelude.{ℕ, ◌==◌, ◌&&◌, not, if◌then◌else◌, Bool, false, cond, List, [], codes, decimal, length, take, filter}
+use Rattle.std.specs.Prelude.{ℕ, zero, suc, ◌==◌, ◌&&◌, not, if◌then◌else◌, Bool, List, [], ◌∷◌, codes, decimal, length, take}
 use Rattle.std.specs.List.{flat_map, list_any}
 use Rattle.header_octets.specs.Octets.{is_same}
 use Rattle.line_words.specs.Words.{word, behind}
-use Rattle.report_page.specs.declared.told.Which.{Which}
-use Rattle.report_page.specs.declared.told.Which.TheVariants.{Talks, Entries}
-use Rattle.report_page.specs.declared.told.TheConstants.{STATIONS_HEAD, TALKS_TITLE, TALKS_HEAD, ENTRIES_TITLE, ENTRIES_HEAD}
-use Rattle.report_page.specs.declared.told.TheConstants.{TABLE_END, STATIONS_END}
-use Rattle.report_page.specs.Escaped.{escaped_octet}
-use Rattle.report_page.specs.Lines.{lines_of}
+use Rattle.report_page.specs.declared.moves.Moves.{Moves}
+use Rattle.report_page.specs.declared.told.TheConstants.{STATIONS_HEAD, TALKS_TITLE, TALKS_HEAD, MOVES_TITLE, MOVES_HEAD, TALK_HEADS}
+use Rattle.report_page.specs.declared.told.TheConstants.{ENTRIES_TITLE, ENTRIES_HEAD, TABLE_END, STATIONS_END}
+use Rattle.report_page.specs.Escaped.{escaped}
+use Rattle.report_page.specs.Lines.{lines_where}
 use Rattle.report_page.specs.Texts.{◌then◌}
+
+-- ---- words
+
+-- what stands behind so many words of a line
+abbrev pub behind_words : ℕ → List ℕ → List ℕ
+behind_words zero line = line
+behind_words (suc n) line = behind (behind_words n line)
+
+-- the word of a line at a place, from 0
+unfoldable pub word_at : ℕ → List ℕ → List ℕ
+word_at place line = word (behind_words place line)
+
+-- ---- lines
 
 -- the line of a talk, but for that of all others together
 abbrev pub is_talk : List ℕ → Bool
 is_talk line = is_same (word line) (codes "talk") && not (is_same (word (behind line)) (codes "others"))
+
+abbrev pub talks_of : List ℕ → List (List ℕ)
+talks_of text = lines_where is_talk text
 
 -- a text has a colon
 abbrev pub is_colon : ℕ → Bool
@@ -28,57 +43,103 @@ has_colon text = list_any is_colon text
 abbrev pub is_entry : List ℕ → Bool
 is_entry line = is_same (word line) (codes "segment") && has_colon (word (behind (behind line)))
 
--- a line that is shown in a table
-unfoldable pub is_wanted : Which → List ℕ → Bool
-is_wanted Talks line = is_talk line
-is_wanted Entries line = is_entry line
+abbrev pub entries_of : List ℕ → List (List ℕ)
+entries_of text = lines_where is_entry text
 
--- how many of them are shown at most
-unfoldable pub limit_of : Which → ℕ
-limit_of Talks = 50
-limit_of Entries = 1000
+-- ---- rows
 
--- a line has a cell for each word
-abbrev pub word_octet : ℕ → List ℕ
-word_octet octet = if octet == 32 then codes "</td><td>" else escaped_octet octet
+-- the cell of a word, and that of a word that is a number
+unfoldable pub word_cell : ℕ → List ℕ → List ℕ
+word_cell place line = codes "<td>" then escaped (word_at place line) then codes "</td>"
 
--- the row of a line
-unfoldable pub line_row : List ℕ → List ℕ
-line_row line = codes "<tr><td>" then flat_map word_octet line then codes "</td></tr>\n"
+unfoldable pub numeral_cell : ℕ → List ℕ → List ℕ
+numeral_cell place line = codes "<td class=\"n\">" then escaped (word_at place line) then codes "</td>"
 
--- the rows of the first lines that are wanted
-unfoldable pub rows_of : Which → ℕ → List ℕ → List ℕ
-rows_of which room text = flat_map line_row (take room (filter (is_wanted which) (lines_of text)))
+-- of a talk: segment, source, from, destination, to, frames, octets, first and last moment
+unfoldable pub talk_row : List ℕ → List ℕ
+talk_row line =
+    codes "<tr>" then word_cell 1 line then word_cell 2 line then word_cell 3 line then word_cell 5 line then word_cell 6 line
+    then numeral_cell 7 line then numeral_cell 8 line then numeral_cell 10 line then numeral_cell 12 line then codes "</tr>\n"
 
--- how many are wanted
-unfoldable pub wanted_in : Which → List ℕ → ℕ
-wanted_in which text = length (filter (is_wanted which) (lines_of text))
+-- of an entry: segment, address, place, how it is kept, and where it was learned its moment and its age
+unfoldable pub entry_row : List ℕ → List ℕ
+entry_row line =
+    codes "<tr>" then word_cell 1 line then word_cell 2 line then word_cell 3 line then word_cell 4 line
+    then numeral_cell 5 line then numeral_cell 7 line then codes "</tr>\n"
 
--- there is room for one more, and it is wanted
-abbrev pub is_shown : Bool → ℕ → Bool
-is_shown wanted room = cond (room == 0) false wanted
+-- those of some lines
+abbrev pub rows_of : (List ℕ → List ℕ) → List (List ℕ) → List ℕ
+rows_of row lines = flat_map row lines
 
--- its row, where it is shown
+-- a row, where it is shown
 abbrev pub row_where : Bool → List ℕ → List ℕ
-row_where shown line = if shown then line_row line else []
+row_where shown line = if shown then talk_row line else []
 
--- the title of a table
-abbrev pub table_title : Which → List ℕ
-table_title Talks = TALKS_TITLE.now
-table_title Entries = ENTRIES_TITLE.now
+-- ---- talks
 
--- what its rows stand below
-abbrev pub table_head : Which → List ℕ
-table_head Talks = TALKS_HEAD.now
-table_head Entries = ENTRIES_HEAD.now
+-- two talks are of the same segment
+abbrev pub is_beside : List ℕ → List ℕ → Bool
+is_beside line other = is_same (word_at 1 line) (word_at 1 other)
 
--- a table, and how many lines there are for it
-unfoldable pub table_text : Which → ℕ → List ℕ → List ℕ
-table_text which count text =
-    table_title which then decimal count then table_head which then rows_of which (limit_of which) text then TABLE_END.now
+-- talks by segments: a segment's stand together
+abbrev pub onto_segments : List ℕ → List (List (List ℕ)) → List (List (List ℕ))
+onto_segments line [] = (line ∷ []) ∷ []
+onto_segments line ([] ∷ segments) = (line ∷ []) ∷ segments
+onto_segments line ((next ∷ lines) ∷ segments) =
+    if is_beside line next then (line ∷ next ∷ lines) ∷ segments else (line ∷ []) ∷ (next ∷ lines) ∷ segments
 
--- both tables
+abbrev pub by_segments : List (List ℕ) → List (List (List ℕ))
+by_segments [] = []
+by_segments (line ∷ lines) = onto_segments line (by_segments lines)
+
+-- of each segment the first ten
+unfoldable pub largest_of : List (List ℕ) → List (List ℕ)
+largest_of talks = flat_map (take 10) (by_segments talks)
+
+-- ---- moves
+
+-- a talk of this source in this segment, but from another place
+unfoldable pub is_elsewhere : List ℕ → List ℕ → List ℕ → List ℕ → Bool
+is_elsewhere segment source from other =
+    is_same (word_at 1 other) segment && is_same (word_at 2 other) source && not (is_same (word_at 3 other) from)
+
+-- there is one among these talks
+unfoldable pub has_moved : List (List ℕ) → List ℕ → Bool
+has_moved talks line = list_any (is_elsewhere (word_at 1 line) (word_at 2 line) (word_at 3 line)) talks
+
+-- the talks that others are compared with
+abbrev pub compared_with : Moves → List (List ℕ)
+compared_with moves = take moves.count (talks_of moves.talks.now)
+
+abbrev pub is_move : List (List ℕ) → List ℕ → Bool
+is_move talks line = is_talk line && has_moved talks line
+
+-- talks whose source sent from more than one place in its segment: each is compared with all, of which a run prints 4,096 at most
+abbrev pub moves_of : List ℕ → List (List ℕ)
+moves_of text = lines_where (is_move (take 4096 (talks_of text))) text
+
+-- ---- tables, each with how many lines there are for it
+
+unfoldable pub talks_table : List ℕ → List ℕ
+talks_table text =
+    TALKS_TITLE.now then decimal (length (talks_of text)) then TALKS_HEAD.now then TALK_HEADS.now
+    then rows_of talk_row (largest_of (talks_of text)) then TABLE_END.now
+
+-- of moves among these talks
+unfoldable pub moves_told : ℕ → List (List ℕ) → List ℕ → List ℕ
+moves_told count talks text =
+    MOVES_TITLE.now then decimal count then MOVES_HEAD.now then TALK_HEADS.now
+    then rows_of talk_row (take 1000 (lines_where (is_move talks) text)) then TABLE_END.now
+
+abbrev pub moves_table : List ℕ → List ℕ
+moves_table text = moves_told (length (moves_of text)) (take 4096 (talks_of text)) text
+
+unfoldable pub entries_table : List ℕ → List ℕ
+entries_table text =
+    ENTRIES_TITLE.now then decimal (length (entries_of text)) then ENTRIES_HEAD.now
+    then rows_of entry_row (take 1000 (entries_of text)) then TABLE_END.now
+
+-- all of it
 unfoldable pub told_text : List ℕ → List ℕ
 told_text text =
-    STATIONS_HEAD.now then table_text Talks (wanted_in Talks text) text then table_text Entries (wanted_in Entries text) text
-    then STATIONS_END.now
+    STATIONS_HEAD.now then talks_table text then moves_table text then entries_table text then STATIONS_END.now

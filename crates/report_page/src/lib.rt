@@ -12,6 +12,7 @@
 #![tactic(auto)]
 
 mod causes;
+mod chosen;
 mod drops;
 mod each;
 mod escaped;
@@ -21,6 +22,7 @@ mod laws;
 mod lines;
 mod matrix;
 mod moment;
+mod moves;
 mod over_time;
 mod page;
 mod pair_rows;
@@ -34,7 +36,9 @@ mod segments;
 mod series;
 mod squares;
 mod style;
+mod talks;
 mod told;
+mod told_rows;
 
 pub use laws::{escaped_has_no_loose_ampersand, escaped_has_no_markup};
 pub use page::write_page;

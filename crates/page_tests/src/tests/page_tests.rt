@@ -96,20 +96,138 @@ fn shows_no_text_of_others_as_markup(rt: HostRuntime) -> Result<(), Fail> {
     let page = page.as_str();
     assert!(rt; page.contains("<title>What a run gave: &lt;b&gt;&amp;&quot;&#39;</title>"));
     assert!(rt;
-        page.contains("<td>&lt;script&gt;</td><td>p1</td><td>&gt;</td><td>&quot;&#39;&amp;</td>")
+        page.contains("<td>&lt;script&gt;</td><td>p1</td><td>&quot;&#39;&amp;</td><td>p2</td>")
     );
     assert!(rt; !page.contains("<script"));
     assert!(rt; !page.contains("<td>812</td>"));
     Ok(())
 }
 
+/// Talks of eleven sources of a segment, of another, and of all others.
+fn talks<'a>() -> &'a str {
+    "\
+talk 10 02:00:00:00:00:01 p1 > 02:00:00:00:00:0c p2 9 1100 first 1000000000 last 9000000000
+talk 10 02:00:00:00:00:02 p1 > 02:00:00:00:00:0c p2 8 1000 first 1000000000 last 9000000000
+talk 10 02:00:00:00:00:03 p1 > 02:00:00:00:00:0c p2 8 900 first 1000000000 last 9000000000
+talk 10 02:00:00:00:00:04 p1 > 02:00:00:00:00:0c p2 7 800 first 1000000000 last 9000000000
+talk 10 02:00:00:00:00:05 p1 > 02:00:00:00:00:0c p2 7 700 first 1000000000 last 9000000000
+talk 10 02:00:00:00:00:06 p1 > 02:00:00:00:00:0c p2 6 600 first 1000000000 last 9000000000
+talk 10 02:00:00:00:00:07 p1 > 02:00:00:00:00:0c p2 5 500 first 1000000000 last 9000000000
+talk 10 02:00:00:00:00:08 p1 > 02:00:00:00:00:0c p2 4 400 first 1000000000 last 9000000000
+talk 10 02:00:00:00:00:09 p1 > 02:00:00:00:00:0c p2 3 300 first 1000000000 last 9000000000
+talk 10 02:00:00:00:00:0a p1 > 02:00:00:00:00:0c vxlan:192.0.2.2 2 200 first 3000000000 last 4000000000
+talk 10 02:00:00:00:00:0b p1 > 02:00:00:00:00:0c p2 1 100 first 5000000000 last 5000000000
+talk 20 02:00:00:00:00:0b p3 > 02:00:00:00:00:0c drop 1 60 first 6000000000 last 6000000000
+talk others 7 700 first 1000000000 last 2000000000
+"
+}
+
+/// What stands on the page of these talks: the heads and the first, then the tenth and that of the other segment; and no move.
+fn ten_of_each<'a>() -> [&'a str; 3] {
+    [
+        "; of each segment the first ten are shown.</p>
+<div class=\"wide\" role=\"region\" aria-label=\"Talks\" tabindex=\"0\"><table>
+<thead><tr><th scope=\"col\">Segment</th><th scope=\"col\">Source</th><th scope=\"col\">From</th>\
+<th scope=\"col\">Destination</th><th scope=\"col\">To</th><th scope=\"col\" class=\"n\">Frames</th>\
+<th scope=\"col\" class=\"n\">Octets</th><th scope=\"col\" class=\"n\">First frame, ns</th>\
+<th scope=\"col\" class=\"n\">Last frame, ns</th></tr></thead>
+<tbody>
+<tr><td>10</td><td>02:00:00:00:00:01</td><td>p1</td><td>02:00:00:00:00:0c</td><td>p2</td><td class=\"n\">9</td>\
+<td class=\"n\">1100</td><td class=\"n\">1000000000</td><td class=\"n\">9000000000</td></tr>
+",
+        "\
+<tr><td>10</td><td>02:00:00:00:00:0a</td><td>p1</td><td>02:00:00:00:00:0c</td><td>vxlan:192.0.2.2</td><td class=\"n\">2</td>\
+<td class=\"n\">200</td><td class=\"n\">3000000000</td><td class=\"n\">4000000000</td></tr>
+<tr><td>20</td><td>02:00:00:00:00:0b</td><td>p3</td><td>02:00:00:00:00:0c</td><td>drop</td><td class=\"n\">1</td>\
+<td class=\"n\">60</td><td class=\"n\">6000000000</td><td class=\"n\">6000000000</td></tr>
+</tbody>
+</table></div>
+<h3>Moves</h3>
+",
+        "Lines: 0; the first 1,000 are shown at most.</p>
+<div class=\"wide\" role=\"region\" aria-label=\"Moves\" tabindex=\"0\"><table>
+",
+    ]
+}
+
+#[test]
+fn shows_ten_talks_of_each_segment(rt: HostRuntime) -> Result<(), Fail> {
+    let page = page_of(rt.alloc(), "", "out", talks())?;
+    check(&rt, page.as_str().contains("first. Lines: 12;"), "how many");
+    for part in ten_of_each() {
+        check(&rt, page.as_str().contains(part), part);
+    }
+    Ok(())
+}
+
+/// Talks of a source that moved, of one that has two destinations, and of the same in another segment.
+fn talks_of_one_that_moved<'a>() -> &'a str {
+    "\
+talk 10 02:00:00:00:00:01 p1 > 02:00:00:00:00:03 p2 5 500 first 1000000000 last 2000000000
+talk 10 02:00:00:00:00:02 p1 > 02:00:00:00:00:03 p2 4 400 first 1000000000 last 2000000000
+talk 10 02:00:00:00:00:01 vxlan:192.0.2.2 > 02:00:00:00:00:03 p2 3 300 first 3000000000 last 4000000000
+talk 10 02:00:00:00:00:02 p1 > 02:00:00:00:00:01 flood 2 200 first 5000000000 last 6000000000
+talk 20 02:00:00:00:00:02 p3 > 02:00:00:00:00:03 drop 1 100 first 7000000000 last 7000000000
+talk others 7 700 first 1000000000 last 2000000000
+"
+}
+
+/// All that is told of moves.
+fn moves<'a>() -> &'a str {
+    "\
+<h3>Moves</h3>
+<p>Talks of an address that sent from more than one place in its segment. Lines: 2; the first 1,000 are shown at most.</p>
+<div class=\"wide\" role=\"region\" aria-label=\"Moves\" tabindex=\"0\"><table>
+<thead><tr><th scope=\"col\">Segment</th><th scope=\"col\">Source</th><th scope=\"col\">From</th>\
+<th scope=\"col\">Destination</th><th scope=\"col\">To</th><th scope=\"col\" class=\"n\">Frames</th>\
+<th scope=\"col\" class=\"n\">Octets</th><th scope=\"col\" class=\"n\">First frame, ns</th>\
+<th scope=\"col\" class=\"n\">Last frame, ns</th></tr></thead>
+<tbody>
+<tr><td>10</td><td>02:00:00:00:00:01</td><td>p1</td><td>02:00:00:00:00:03</td><td>p2</td><td class=\"n\">5</td>\
+<td class=\"n\">500</td><td class=\"n\">1000000000</td><td class=\"n\">2000000000</td></tr>
+<tr><td>10</td><td>02:00:00:00:00:01</td><td>vxlan:192.0.2.2</td><td>02:00:00:00:00:03</td><td>p2</td><td class=\"n\">3</td>\
+<td class=\"n\">300</td><td class=\"n\">3000000000</td><td class=\"n\">4000000000</td></tr>
+</tbody>
+</table></div>
+<h3>Tables</h3>
+"
+}
+
+#[test]
+fn shows_who_moved(rt: HostRuntime) -> Result<(), Fail> {
+    let page = page_of(rt.alloc(), "", "out", talks_of_one_that_moved())?;
+    assert!(rt; page.as_str().contains(moves()));
+    Ok(())
+}
+
+/// Entries of a table, one fixed and one learned, and a line that is none.
+fn entries<'a>() -> &'a str {
+    "\
+segment 10 dropped 35 SamePlace 2
+segment 10 02:00:00:00:00:01 p1 fixed
+segment 10 02:00:00:00:00:02 192.0.2.2 seen 1000000000 age 3.000000000
+"
+}
+
+/// All that is told of them.
+fn entry_rows<'a>() -> &'a str {
+    " Lines: 2; the first 1,000 are shown at most.</p>
+<div class=\"wide\" role=\"region\" aria-label=\"Tables\" tabindex=\"0\"><table>
+<thead><tr><th scope=\"col\">Segment</th><th scope=\"col\">Address</th><th scope=\"col\">Place</th>\
+<th scope=\"col\">Kept</th><th scope=\"col\" class=\"n\">Moment, ns</th><th scope=\"col\" class=\"n\">Age, s</th></tr></thead>
+<tbody>
+<tr><td>10</td><td>02:00:00:00:00:01</td><td>p1</td><td>fixed</td><td class=\"n\"></td><td class=\"n\"></td></tr>
+<tr><td>10</td><td>02:00:00:00:00:02</td><td>192.0.2.2</td><td>seen</td><td class=\"n\">1000000000</td>\
+<td class=\"n\">3.000000000</td></tr>
+</tbody>
+</table></div>
+</section>
+"
+}
+
 #[test]
 fn shows_entries_of_tables(rt: HostRuntime) -> Result<(), Fail> {
-    let told =
-        "segment 10 02:00:00:00:00:01 p1 seen 1000000000 age 3.000000000\nsegment 10 dropped 35 SamePlace 2\n";
-    let page = page_of(rt.alloc(), "", "out", told)?;
-    let row = "<tr><td>segment</td><td>10</td><td>02:00:00:00:00:01</td><td>p1</td><td>seen</td>";
-    assert!(rt; page.as_str().contains(row));
-    assert!(rt; !page.as_str().contains("<td>SamePlace</td>"));
+    let page = page_of(rt.alloc(), "", "out", entries())?;
+    assert!(rt; page.as_str().contains(entry_rows()));
     Ok(())
 }

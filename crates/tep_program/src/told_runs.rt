@@ -61,6 +61,18 @@ impl Asked<'_, '_> {
     }
 }
 
+/// A run on captures, and what is asked for of it.
+#[derive(Clone, Copy)]
+struct Job<'j, 'n, 'a> {
+    names: Names<'n, 'a>,
+    texts: &'j Texts,
+    /// Where its outputs are written, if they are.
+    folder: Option<&'j str>,
+    asked: Asked<'n, 'a>,
+    /// Those of a part, or all.
+    segments: &'j SegmentSet,
+}
+
 /// Runs on captures, and prints what is asked for besides. Where standard error is a terminal, it shows how far the run is.
 pub fn run_and_tell<'a, R: Files + Input + AllocGlobal + Print + Eprint + Clock + Screen>(
     rt: &R,
@@ -72,17 +84,20 @@ pub fn run_and_tell<'a, R: Files + Input + AllocGlobal + Print + Eprint + Clock 
     let texts = Texts::read(rt, names)?;
     let segments = segments_of(asked.segments)?;
     let progress = progress_of(rt, names, asked.quiet);
+    let job = Job {
+        names,
+        texts: &texts,
+        folder,
+        asked,
+        segments: &segments,
+    };
     // A fault stands on the first line of standard error, so that what was left out is told behind a run that is done alone.
     let Some(sieve) = sieve_of(rt.alloc(), texts.settings.as_slice(), asked.within)? else {
-        let ran = run_plain(
-            rt, names, &texts, folder, asked, &segments, progress, failed,
-        )?;
+        let ran = run_plain(rt, job, progress, failed)?;
         tell_outbound(rt, ran.outbound.as_slice());
         return Ok(());
     };
-    let (ran, sieve) = run_taken(
-        rt, names, &texts, folder, asked, &segments, sieve, Nobody, progress, failed,
-    )?;
+    let (ran, sieve) = run_taken(rt, job, sieve, Nobody, progress, failed)?;
     tell_outbound(rt, ran.outbound.as_slice());
     tell_left_out(rt, &sieve, names.ports.len());
     Ok(())
@@ -92,32 +107,15 @@ pub fn run_and_tell<'a, R: Files + Input + AllocGlobal + Print + Eprint + Clock 
 /// then nobody looks on.
 fn run_plain<'r, 'a, R: Files + Input + AllocGlobal + Print + Eprint + Clock>(
     rt: &'r R,
-    names: Names<'_, 'a>,
-    texts: &Texts,
-    folder: Option<&str>,
-    asked: Asked<'_, 'a>,
-    segments: &SegmentSet,
+    job: Job<'_, '_, 'a>,
     progress: Option<Progress<'r, R>>,
     failed: &mut FailedOutputs,
 ) -> Result<Ran<R::File>, Failure<'a>> {
-    if asked.is_nothing() && !asked.json && progress.is_none() {
-        let run = run_asked(
-            rt,
-            names,
-            texts,
-            None,
-            folder,
-            asked,
-            segments,
-            &mut TakesAll,
-            &mut Unwatched,
-            failed,
-        );
+    if job.asked.is_nothing() && !job.asked.json && progress.is_none() {
+        let run = run_asked(rt, job, None, &mut TakesAll, &mut Unwatched, failed);
         return finished(run);
     }
-    let (ran, _) = run_taken(
-        rt, names, texts, folder, asked, segments, TakesAll, Unwatched, progress, failed,
-    )?;
+    let (ran, _) = run_taken(rt, job, TakesAll, Unwatched, progress, failed)?;
     Ok(ran)
 }
 
@@ -130,29 +128,21 @@ fn run_taken<
     T: Watch + Drop,
 >(
     rt: &'r R,
-    names: Names<'_, 'a>,
-    texts: &Texts,
-    folder: Option<&str>,
-    asked: Asked<'_, 'a>,
-    segments: &SegmentSet,
+    job: Job<'_, '_, 'a>,
     sieve: S,
     nobody: T,
     progress: Option<Progress<'r, R>>,
     failed: &mut FailedOutputs,
 ) -> Result<(Ran<R::File>, S), Failure<'a>> {
-    let changes = texts.changes_read(rt.alloc())?;
+    let changes = job.texts.changes_read(rt.alloc())?;
     let told = match &changes {
         Some(changes) => Some(changes.as_slice()),
         None => None,
     };
-    if asked.is_nothing() {
-        return run_shown(
-            rt, names, texts, told, folder, asked, segments, sieve, nobody, progress, failed,
-        );
+    if job.asked.is_nothing() {
+        return run_shown(rt, job, told, sieve, nobody, progress, failed);
     }
-    run_watched(
-        rt, names, texts, told, folder, asked, segments, sieve, progress, failed,
-    )
+    run_watched(rt, job, told, sieve, progress, failed)
 }
 
 /// The same where nothing is told behind it: its objects are written, and how far it is is shown.
@@ -165,26 +155,20 @@ fn run_shown<
     T: Watch + Drop,
 >(
     rt: &'r R,
-    names: Names<'_, 'a>,
-    texts: &Texts,
+    job: Job<'_, '_, 'a>,
     told: Option<&'t [TimedChange]>,
-    folder: Option<&str>,
-    asked: Asked<'_, 'a>,
-    segments: &SegmentSet,
     sieve: S,
     nobody: T,
     progress: Option<Progress<'r, R>>,
     failed: &mut FailedOutputs,
 ) -> Result<(Ran<R::File>, S), Failure<'a>>
-    requires told { IfSome told (λ t. changes_in texts.now.changes.items ≡ Ok t.now) }
+    requires told { IfSome told (λ t. changes_in job.texts.now.changes.items ≡ Ok t.now) }
     requires rising { IfSome told (λ t. EachBehind IsRising [] t.now) }
 {
-    let objects = objects_of_run(rt, folder, asked.json, told.unwrap_or(&[]))?;
+    let objects = objects_of_run(rt, job.folder, job.asked.json, told.unwrap_or(&[]))?;
     let mut shown = shown_to(nobody, objects, progress);
     let mut sieve = sieve;
-    let run = run_asked(
-        rt, names, texts, told, folder, asked, segments, &mut sieve, &mut shown, failed,
-    );
+    let run = run_asked(rt, job, told, &mut sieve, &mut shown, failed);
     shown.finish();
     let BesideProgress { watch, .. } = shown;
     let BesideObjects { objects, .. } = watch;
@@ -226,41 +210,27 @@ fn run_watched<
     S: Sieve + LeavesOut + Drop,
 >(
     rt: &'r R,
-    names: Names<'_, 'a>,
-    texts: &Texts,
+    job: Job<'_, '_, 'a>,
     told: Option<&'t [TimedChange]>,
-    folder: Option<&str>,
-    asked: Asked<'_, 'a>,
-    segments: &SegmentSet,
     sieve: S,
     progress: Option<Progress<'r, R>>,
     failed: &mut FailedOutputs,
 ) -> Result<(Ran<R::File>, S), Failure<'a>>
-    requires told { IfSome told (λ t. changes_in texts.now.changes.items ≡ Ok t.now) }
+    requires told { IfSome told (λ t. changes_in job.texts.now.changes.items ≡ Ok t.now) }
     requires rising { IfSome told (λ t. EachBehind IsRising [] t.now) }
 {
-    let objects = objects_of_run(rt, folder, asked.json, told.unwrap_or(&[]))?;
+    let asked = job.asked;
+    let objects = objects_of_run(rt, job.folder, asked.json, told.unwrap_or(&[]))?;
     let watch = BesideTalkers {
         watch: Beside {
-            watch: onlooker_of(rt.alloc(), asked, told.unwrap_or(&[]), segments)?,
+            watch: onlooker_of(rt.alloc(), asked, told.unwrap_or(&[]), job.segments)?,
             tunnels: tunnels_of(rt.alloc(), asked)?,
         },
         talkers: talkers_of(rt.alloc(), asked)?,
     };
     let mut beside = shown_to(watch, objects, progress);
     let mut sieve = sieve;
-    let run = run_asked(
-        rt,
-        names,
-        texts,
-        told,
-        folder,
-        asked,
-        segments,
-        &mut sieve,
-        &mut beside,
-        failed,
-    );
+    let run = run_asked(rt, job, told, &mut sieve, &mut beside, failed);
     beside.finish();
     let BesideProgress { watch, .. } = beside;
     let BesideObjects { watch, objects } = watch;
@@ -277,7 +247,7 @@ fn run_watched<
             let mut ran = ran;
             let written = finish_objects(objects, &sieve, ran.cut.as_slice());
             let found = tell_missing(rt, asked.why, &reports);
-            let told = tell_all(rt, folder, asked, reports, counted, &sieve, &mut ran);
+            let told = tell_all(rt, job.folder, asked, reports, counted, &sieve, &mut ran);
             match written.and(told).and(found) {
                 Ok(()) => Ok((ran, sieve)),
                 Err(failure) => Err(failure),
@@ -351,19 +321,22 @@ fn talkers_of(alloc: Global, asked: Asked<'_, '_>) -> Result<Option<Talkers>, Al
 /// changes, where their text was read before.
 fn run_asked<'a, R: Files + Input + AllocGlobal, S: Sieve, T: Watch>(
     rt: &R,
-    names: Names<'_, 'a>,
-    texts: &Texts,
+    job: Job<'_, '_, 'a>,
     told: Option<&[TimedChange]>,
-    folder: Option<&str>,
-    asked: Asked<'_, 'a>,
-    segments: &SegmentSet,
     sieve: &mut S,
     watch: &mut T,
     failed: &mut FailedOutputs,
 ) -> Result<Ran<R::File>, Failure<'a>>
-    requires told { IfSome told (λ t. changes_in texts.now.changes.items ≡ Ok t.now) }
+    requires told { IfSome told (λ t. changes_in job.texts.now.changes.items ≡ Ok t.now) }
     requires rising { IfSome told (λ t. EachBehind IsRising [] t.now) }
 {
+    let Job {
+        names,
+        texts,
+        folder,
+        asked,
+        segments,
+    } = job;
     let Some(folder) = folder else {
         return run_unwritten(rt, names, texts, told, segments, sieve, watch);
     };
@@ -371,37 +344,25 @@ fn run_asked<'a, R: Files + Input + AllocGlobal, S: Sieve, T: Watch>(
         name: folder,
         objects: asked.json,
     };
-    match asked.segments {
-        Some(list) => run_part(
+    let Some(list) = asked.segments else {
+        let whole = Scope::Whole;
+        let done = run_on_files(
             rt,
             names,
             texts,
             told,
-            to,
-            list,
-            segments,
-            asked.within,
+            Some(to),
+            whole,
             sieve,
             watch,
             failed,
-        ),
-        None => {
-            match run_on_files(
-                rt,
-                names,
-                texts,
-                told,
-                Some(to),
-                Scope::Whole,
-                sieve,
-                watch,
-                failed,
-            ) {
-                Ok(done) => Ok(Ran::whole(rt.alloc(), done.cut, done.outbound)),
-                Err(failure) => Err(failure),
-            }
-        }
-    }
+        )?;
+        return Ok(Ran::whole(rt.alloc(), done.cut, done.outbound));
+    };
+    let within = asked.within;
+    run_part(
+        rt, names, texts, told, to, list, segments, within, sieve, watch, failed,
+    )
 }
 
 /// Says of each name that no event had that none did, but for the last, which is the failure.

@@ -114,7 +114,7 @@ in_segment (Some found) kind a b e x h =
     record { vid = found.0; segment = found.1; segment_is = refl; nothing = NothingHolds-from (inner_reasons found.1 kind a b e) u.0; is = same_Ok made x u.1 }
 
 -- a text of 14 octets or more is that of a frame without a tag
-is_frame-from : (e : List ℕ) → 14 ≤ length e → IsFrame (frame_of e)
+pub is_frame-from : (e : List ℕ) → 14 ≤ length e → IsFrame (frame_of e)
 is_frame-from e h = record {
   dst = omega (arith, length-take 6 e);
   src = omega (arith, length-take 6 (drop 6 e), length-drop 6 e);

@@ -2,7 +2,8 @@
 //!
 //! Use first: [`EtherView`] reads a frame: its addresses, its tag ([`Tagging`]) and what stands behind a packet's tags.
 //! Destination and source are copies, each longer part is a slice of the octets that were read. [`BridgeFrame`] is what a
-//! bridge sees of a frame: no tag is in it, nor any tunnel header. [`Reason`] lists all reasons of a drop, with their numbers.
+//! bridge sees of a frame: no tag is in it, nor any tunnel header. [`Reason`] is why a frame is dropped, each with its number, and
+//! [`REASONS`] lists them.
 //!
 //! Specs to read: `specs/Frame` and `specs/Tag`, then `specs/Ether`; `specs/Reason` and `specs/Refusal` for drops,
 //! `specs/First` for tables of which the first row that holds is the answer.
@@ -20,10 +21,12 @@ mod address;
 mod bridge_frame;
 mod ether_view;
 mod reason;
+mod reasons;
 mod tag;
 
 pub use address::Mac;
 pub use bridge_frame::BridgeFrame;
 pub use ether_view::{CUSTOMER_TAG, EtherView, Runt, Tagging};
 pub use reason::{Reason, Refused};
+pub use reasons::REASONS;
 pub use tag::{Tci, Vid};

@@ -1,10 +1,10 @@
 -- Laws of the sums.
-use Rattle.std.proofs.Common.{◌≡◌, ℕ, zero, suc, ◌+◌, ◌-◌, ◌*◌, ◌%◌, ◌/◌, ◌<◌, ◌≤◌, List, [], ◌∷◌, ◌++◌, length, refl, arith}
+use Rattle.std.proofs.Common.{◌≡◌, ℕ, zero, suc, ◌+◌, ◌-◌, ◌*◌, ◌%◌, ◌/◌, ◌<◌, ◌≤◌, List, [], ◌∷◌, ◌++◌, length, refl, arith, ap, ◌∙◌}
 use Rattle.std.proofs.Common.{eqb, subst, append_assoc}
 use Rattle.std.proofs.lemmas.Bool.{cond_both, eqb-true, eqb-false}
 use Rattle.header_octets.specs.Octets.{octets}
 use Rattle.std.proofs.lemmas.List.{length-append}
-use Rattle.header_octets.specs.Sum.{total, folded, check, sent, pseudo4, pseudo6}
+use Rattle.header_octets.specs.Sum.{total, folded, complement, check, sent, sent_of, pseudo4, pseudo6}
 
 -- the sum of two texts side by side, the first of even length
 pub total-append : (k : ℕ) (a b : List ℕ) → length a ≡ 2 * k → total (a ++ b) ≡ total a + total b
@@ -123,3 +123,16 @@ total-pseudo6 src dst d len s t h =
     let even : length (pseudo6 src dst len) % 2 ≡ 0 = omega arith in
     let middle : total (octets 4 len) ≡ len = omega arith in
     omega (arith, total-append_even (pseudo6 src dst len) d even, total-append_even (src ++ dst ++ octets 4 len) (0 ∷ 0 ∷ 0 ∷ 17 ∷ []) middle_even, total-append_even (src ++ dst) (octets 4 len) front, total-append_even src dst (omega arith), middle)
+
+-- the checksum that is sent of a datagram in three parts, from what the code adds up, behind a pseudo header with such a sum
+pub sent-parts : (pseudo : List ℕ → List ℕ → ℕ → List ℕ) (src dst first second third : List ℕ) (addresses x : ℕ)
+    → ((d : List ℕ) (len : ℕ) → len < 65536 → total (pseudo src dst len ++ d) ≡ total src + total dst + 17 + len + total d)
+    → length first + length second + length third ≤ 65535 → addresses ≡ total src + total dst
+    → let datagram = first ++ second ++ third in
+    x ≡ sent_of (complement (addresses + 17 + length datagram + total datagram)) → x ≡ sent (pseudo src dst (length datagram) ++ datagram)
+sent-parts pseudo src dst first second third addresses x total-pseudo fits front is =
+    let datagram = first ++ second ++ third in
+    let length_is : length datagram ≡ length first + length second + length third = omega (arith, length-append (first ++ second) third, length-append first second) in
+    let whole = total-pseudo datagram (length datagram) (omega (arith, length_is, fits)) in
+    let same : addresses + 17 + length datagram + total datagram ≡ total (pseudo src dst (length datagram) ++ datagram) = omega (arith, whole, front) in
+    is ∙ ap (λ (s : ℕ). sent_of (complement s)) same

@@ -5,6 +5,7 @@ ghost use Rattle.ip_udp_view.specs.Ip.{Ip4, SplitsIp, IsSumRight, packet_parts, 
 
 use crate::header_sum::is_sum_right;
 use crate::octets::array_at;
+use crate::slices::Slices;
 use crate::{Addr, IpFault};
 use byteorder::{BigEndian, ByteOrder};
 use std::marker::Model;
@@ -19,9 +20,7 @@ const OFFSETS: u16 = 8192;
 /// An IPv4 packet (RFC 791, 3.1) and what stands behind it, seen by contracts as its parts.
 #[derive(Debug, Drop)]
 pub struct Ip4View<'a> {
-    head: &'a [u8],
-    payload: &'a [u8],
-    tail: &'a [u8],
+    slices: Slices<'a>,
 }
 
 impl<'a> Model for Ip4View<'a> {
@@ -31,9 +30,9 @@ impl<'a> Model for Ip4View<'a> {
 
     ghost Value = { Parts };
 
-    ghost view = { λ v. record { head = v.head.now; payload = v.payload.now; tail = v.tail.now } };
+    ghost view = { λ v. v.slices };
 
-    ghost invariant = { λ v. IsHeader4 v.head.now (length v.payload.now) };
+    ghost invariant = { λ v. IsHeader4 v.slices.head (length v.slices.payload) };
 }
 
 impl<'a> Ip4View<'a> {
@@ -55,36 +54,32 @@ impl<'a> Ip4View<'a> {
         if header < SHORTEST_HEADER || total < header || octets.len() < total {
             return Err(IpFault::BadIp);
         }
-        let head = &octets[..header];
-        if !is_sum_right(head) {
+        if !is_sum_right(&octets[..header]) {
             return Err(IpFault::BadIpSum);
         }
-        Ok(Ip4View {
-            head,
-            payload: &octets[header..total],
-            tail: &octets[total..],
-        })
+        let slices = Slices::cut(octets, header, total);
+        Ok(Ip4View { slices })
     }
 
     /// The source address.
     pub fn src(&self) -> Addr
         ensures { result ≡ source Ip4 self.now.head }
     {
-        Addr::V4(array_at(self.head, 12))
+        Addr::V4(array_at(self.slices.head, 12))
     }
 
     /// The destination address.
     pub fn dst(&self) -> Addr
         ensures { result ≡ destination Ip4 self.now.head }
     {
-        Addr::V4(array_at(self.head, 16))
+        Addr::V4(array_at(self.slices.head, 16))
     }
 
     /// Whether it is a part of a larger packet: More Fragments is set, or the fragment offset is not 0.
     pub fn is_fragment(&self) -> bool
         ensures { result ≡ is_fragment Ip4 self.now.head }
     {
-        let flags_and_offset = BigEndian::read_u16(&self.head[6..]);
+        let flags_and_offset = BigEndian::read_u16(&self.slices.head[6..]);
         flags_and_offset / OFFSETS % 2 == 1 || flags_and_offset % OFFSETS != 0
     }
 
@@ -92,27 +87,28 @@ impl<'a> Ip4View<'a> {
     pub fn proto(&self) -> u8
         ensures { result ≡ protocol Ip4 self.now.head }
     {
-        self.head[9]
+        let head = self.slices.head;
+        head[9]
     }
 
     /// The header with its options, 20 to 60 octets.
     pub fn head(&self) -> &'a [u8]
         ensures { result.now ≡ self.now.head }
     {
-        self.head
+        self.slices.head
     }
 
     /// What stands behind the header, up to the total length.
     pub fn payload(&self) -> &'a [u8]
         ensures { result.now ≡ self.now.payload }
     {
-        self.payload
+        self.slices.payload
     }
 
     /// What stands behind the total length and is no part of the packet, as padding of a short frame.
     pub fn tail(&self) -> &'a [u8]
         ensures { result.now ≡ self.now.tail }
     {
-        self.tail
+        self.slices.tail
     }
 }

@@ -4,6 +4,7 @@ ghost use Rattle.frame_view.specs.First.{fault_of, first};
 ghost use Rattle.ip_udp_view.specs.Ip.{Ip6, SplitsIp, packet_parts, ip_faults, source, destination, protocol, is_fragment};
 
 use crate::octets::array_at;
+use crate::slices::Slices;
 use crate::{Addr, IpFault};
 use byteorder::{BigEndian, ByteOrder};
 use std::marker::Model;
@@ -18,9 +19,7 @@ const FRAGMENT: u8 = 44;
 /// An IPv6 packet (RFC 8200, 3) and what stands behind it, seen by contracts as its parts.
 #[derive(Debug, Drop)]
 pub struct Ip6View<'a> {
-    head: &'a [u8],
-    payload: &'a [u8],
-    tail: &'a [u8],
+    slices: Slices<'a>,
 }
 
 impl<'a> Model for Ip6View<'a> {
@@ -30,9 +29,9 @@ impl<'a> Model for Ip6View<'a> {
 
     ghost Value = { Parts };
 
-    ghost view = { λ v. record { head = v.head.now; payload = v.payload.now; tail = v.tail.now } };
+    ghost view = { λ v. v.slices };
 
-    ghost invariant = { λ v. IsHeader6 v.head.now (length v.payload.now) };
+    ghost invariant = { λ v. IsHeader6 v.slices.head (length v.slices.payload) };
 }
 
 impl<'a> Ip6View<'a> {
@@ -52,25 +51,22 @@ impl<'a> Ip6View<'a> {
         if octets.len() < end {
             return Err(IpFault::BadIp);
         }
-        Ok(Ip6View {
-            head: &octets[..HEADER],
-            payload: &octets[HEADER..end],
-            tail: &octets[end..],
-        })
+        let slices = Slices::cut(octets, HEADER, end);
+        Ok(Ip6View { slices })
     }
 
     /// The source address.
     pub fn src(&self) -> Addr
         ensures { result ≡ source Ip6 self.now.head }
     {
-        Addr::V6(array_at(self.head, 8))
+        Addr::V6(array_at(self.slices.head, 8))
     }
 
     /// The destination address.
     pub fn dst(&self) -> Addr
         ensures { result ≡ destination Ip6 self.now.head }
     {
-        Addr::V6(array_at(self.head, 24))
+        Addr::V6(array_at(self.slices.head, 24))
     }
 
     /// Whether it is a part of a larger packet: the next header is Fragment (RFC 8200, 4.5).
@@ -84,27 +80,28 @@ impl<'a> Ip6View<'a> {
     pub fn proto(&self) -> u8
         ensures { result ≡ protocol Ip6 self.now.head }
     {
-        self.head[6]
+        let head = self.slices.head;
+        head[6]
     }
 
     /// The header, 40 octets.
     pub fn head(&self) -> &'a [u8]
         ensures { result.now ≡ self.now.head }
     {
-        self.head
+        self.slices.head
     }
 
     /// What stands behind the header, as long as the payload length says.
     pub fn payload(&self) -> &'a [u8]
         ensures { result.now ≡ self.now.payload }
     {
-        self.payload
+        self.slices.payload
     }
 
     /// What stands behind the payload and is no part of the packet, as padding of a short frame.
     pub fn tail(&self) -> &'a [u8]
         ensures { result.now ≡ self.now.tail }
     {
-        self.tail
+        self.slices.tail
     }
 }

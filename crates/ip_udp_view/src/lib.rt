@@ -26,6 +26,7 @@ mod ip_fault;
 mod ip_view;
 pub mod laws;
 mod octets;
+mod slices;
 mod udp_view;
 
 pub use addr::{Addr, Tunnel};

@@ -10,6 +10,7 @@ ghost use Rattle.ip_udp_view.specs.Addr.{address, same_family};
 ghost use Rattle.ip_udp_view.specs.Udp.{SplitsUdp, udp_parts, udp_faults, sport, dport, pseudo, is_partial, sum_state};
 
 use crate::Addr;
+use crate::slices::Slices;
 use byteorder::{BigEndian, ByteOrder};
 use header_octets::{UDP, fold, folded, words};
 use std::marker::Model;
@@ -40,9 +41,7 @@ pub enum SumState {
 /// A UDP datagram (RFC 768) and what stands behind it, seen by contracts as its parts.
 #[derive(Debug, Drop)]
 pub struct UdpView<'a> {
-    head: &'a [u8],
-    payload: &'a [u8],
-    tail: &'a [u8],
+    slices: Slices<'a>,
 }
 
 impl<'a> Model for UdpView<'a> {
@@ -52,9 +51,9 @@ impl<'a> Model for UdpView<'a> {
 
     ghost Value = { Parts };
 
-    ghost view = { λ v. record { head = v.head.now; payload = v.payload.now; tail = v.tail.now } };
+    ghost view = { λ v. v.slices };
 
-    ghost invariant = { λ v. IsUdpHeader v.head.now (length v.payload.now) };
+    ghost invariant = { λ v. IsUdpHeader v.slices.head (length v.slices.payload) };
 }
 
 impl<'a> UdpView<'a> {
@@ -73,39 +72,36 @@ impl<'a> UdpView<'a> {
         if end < HEADER || octets.len() < end {
             return Err(BadUdp);
         }
-        Ok(UdpView {
-            head: &octets[..HEADER],
-            payload: &octets[HEADER..end],
-            tail: &octets[end..],
-        })
+        let slices = Slices::cut(octets, HEADER, end);
+        Ok(UdpView { slices })
     }
 
     /// The source port.
     pub fn sport(&self) -> u16
         ensures { result ≡ sport self.now.head }
     {
-        BigEndian::read_u16(self.head)
+        BigEndian::read_u16(self.slices.head)
     }
 
     /// The destination port.
     pub fn dport(&self) -> u16
         ensures { result ≡ dport self.now.head }
     {
-        BigEndian::read_u16(&self.head[2..])
+        BigEndian::read_u16(&self.slices.head[2..])
     }
 
     /// What stands behind the header, up to the length that the header tells.
     pub fn payload(&self) -> &'a [u8]
         ensures { result.now ≡ self.now.payload }
     {
-        self.payload
+        self.slices.payload
     }
 
     /// What stands behind the datagram in its IP payload.
     pub fn tail(&self) -> &'a [u8]
         ensures { result.now ≡ self.now.tail }
     {
-        self.tail
+        self.slices.tail
     }
 
     /// What the checksum says of the datagram between these addresses, which are of one family: over the header and the
@@ -115,7 +111,7 @@ impl<'a> UdpView<'a> {
         requires { IsTrue (same_family src dst) }
         ensures { result ≡ sum_state src dst (self.now.head ++ self.now.payload) }
     {
-        let told = BigEndian::read_u16(&self.head[6..]);
+        let told = BigEndian::read_u16(&self.slices.head[6..]);
         if told == 0 {
             SumState::Zero
         } else if self.sum_between(src, dst) == u16::MAX {
@@ -133,7 +129,7 @@ impl<'a> UdpView<'a> {
         requires { IsTrue (same_family src dst) }
         ensures { result ≡ is_partial (sum_state src dst (self.now.head ++ self.now.payload)) }
     {
-        if BigEndian::read_u16(&self.head[6..]) != fold(self.pseudo_words(src, dst)) {
+        if BigEndian::read_u16(&self.slices.head[6..]) != fold(self.pseudo_words(src, dst)) {
             return false;
         }
         matches!(self.sum_state(src, dst), SumState::Partial)
@@ -147,7 +143,7 @@ impl<'a> UdpView<'a> {
             result ≡ folded (total (pseudo src dst (length datagram) ++ datagram)) }
     {
         let pseudo = self.pseudo_words(src, dst);
-        fold(pseudo + words(self.head) + u64::from(folded(self.payload)))
+        fold(pseudo + words(self.slices.head) + u64::from(folded(self.slices.payload)))
     }
 
     /// The sum of the words of the pseudo header between these addresses (RFC 768; RFC 8200, 8.1).
@@ -157,7 +153,7 @@ impl<'a> UdpView<'a> {
         ensures sum { result ≡ total (pseudo src dst (length (self.now.head ++ self.now.payload))) }
         ensures small { result ≤ 2 ^ 22 }
     {
-        let length = u64::from(BigEndian::read_u16(&self.head[4..]));
+        let length = u64::from(BigEndian::read_u16(&self.slices.head[4..]));
         address_words(src) + address_words(dst) + u64::from(UDP) + length
     }
 }

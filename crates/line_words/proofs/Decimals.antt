@@ -5,7 +5,7 @@ use Rattle.std.specs.Prelude.{◌&&◌, nat_le}
 use Rattle.std.proofs.lemmas.Bool.{cases_lt, eq-eqb, ne_eqb, cond-true, cond-false, leb-true, lt-ltb, ltb-true}
 use Rattle.std.proofs.lemmas.Bool.Decides.{nat_tests}
 use Rattle.std.proofs.lemmas.Fmt.{decimal_by_steps, decimal_step, decimal_digit, decimal_nonempty, first_decimal}
-use Rattle.line_words.specs.Numbers.{ReadsDecimals, WritesDecimals, is_digit, number_after, number_of}
+use Rattle.line_words.specs.Numbers.{ReadsDecimals, WritesDecimals, byte_of, is_digit, number_after, number_of, octet_of}
 
 -- ---- lacking a character
 
@@ -35,6 +35,22 @@ lacks_decimal s n other fits =
     (λ m low. lacks_one s (48 + m) (other m low))
     (λ m ds high front. lacks_more s ds ((48 + m % 10) ∷ []) front (lacks_one s (48 + m % 10) (other (m % 10) (omega arith))))
     n fits
+
+-- ---- words between spaces, in one line
+
+-- neither a line feed nor a space is in it
+pub record IsWord (w : List ℕ) : Type 0 where
+  pub line : lacks 10 w ≡ true
+  pub space : lacks 32 w ≡ true
+
+pub number_word : (n : ℕ) → n < 2 ^ 64 → IsWord (decimal n)
+number_word n fits = record {
+  line = lacks_decimal 10 n (λ d low is. absurd (omega (arith, is))) fits;
+  space = lacks_decimal 32 n (λ d low is. absurd (omega (arith, is))) fits;
+}
+
+pub join : (a b : List ℕ) → lacks 10 a ≡ true → lacks 10 b ≡ true → lacks 10 (a ++ 32 ∷ b) ≡ true
+join a b first second = lacks_more 10 a (32 ∷ b) first second
 
 -- ---- reading digits
 
@@ -95,6 +111,9 @@ number_decimal n fits = number_first (decimal n) (decimal_nonempty n fits) (only
           | inl lt ↦ ap length (decimal_digit n lt)
           | inr ge ↦ absurd (omega (arith, h, first_decimal n (omega (arith, ge)) fits))
         ]
+
+pub octet_decimal : (n : ℕ) → n < 256 → octet_of (decimal n) ≡ Some n
+octet_decimal n low = ap (option_and_then byte_of) (number_decimal n (omega (arith, low))) ∙ cond-true _ _ _ (lt-ltb n 256 low)
 
 -- ---- no other text is read
 

@@ -1,6 +1,7 @@
 -- The format of numbers in lines of text: decimal digits without leading zeros, below 2 ^ 64. It states no standard.
 use Rattle.std.specs.Prelude.{◌≡◌, ◌<◌, ℕ, ◌+◌, ◌-◌, ◌*◌, ◌^◌, ◌==◌, nat_le, nat_lt, Bool, ◌&&◌}
 use Rattle.std.specs.Prelude.{List, [], ◌∷◌, length, decimal, if◌then◌else◌, Option, Some, None}
+use Rattle.std.specs.Option.{option_and_then}
 
 -- '0' to '9'
 abbrev pub is_digit : ℕ → Bool
@@ -15,6 +16,14 @@ number_after n (c ∷ cs) = if is_digit c && nat_lt (10 * n + (c - 48)) (2 ^ 64)
 abbrev pub number_of : List ℕ → Option ℕ
 number_of [] = None
 number_of (c ∷ cs) = if (c == 48) && nat_lt 0 (length cs) then None else number_after 0 (c ∷ cs)
+
+-- a number of 8 bits
+abbrev pub byte_of : ℕ → Option ℕ
+byte_of number = if nat_lt number 256 then Some number else None
+
+-- the one that a text writes in decimal digits
+abbrev pub octet_of : List ℕ → Option ℕ
+octet_of text = option_and_then byte_of (number_of text)
 
 -- a law: it is the number whose decimal text this is
 abbrev pub ReadsDecimals : Type 0

@@ -1,3 +1,4 @@
+pub mod Bounded
 pub mod Numbers
 pub mod Headers
 pub mod Nexts

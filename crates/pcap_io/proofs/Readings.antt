@@ -1,7 +1,8 @@
 -- The records of a text, by what comes next in it.
-use Rattle.std.proofs.Common.{◌≡◌, refl, ap, ℕ, zero, suc, ◌+◌, ◌<◌, ◌≤◌, Bool, true, false, List, [], ◌∷◌, length, arith, length-drop, Option, Some, None}
+use Rattle.std.proofs.Common.{◌≡◌, refl, ap, ℕ, ◌+◌, ◌<◌, ◌≤◌, Bool, true, false, List, [], ◌∷◌, length, arith, length-drop, Option, Some, None}
 use Rattle.std.specs.Prelude.{◌==◌, nat_lt, nat_le}
 use Rattle.std.proofs.lemmas.Bool.{ltb-false, leb-false}
+use Rattle.pcap_io.proofs.Bounded.{one_step}
 use Rattle.pcap_io.specs.Next.{End, Next, Another, Ends, ending, endings, first_row, next_of, next_unless, record_by, behind_by}
 use Rattle.pcap_io.specs.Record.{longest}
 use Rattle.pcap_io.specs.Reading.{first_records, Reading, reading_by, records, whole, with_record}
@@ -57,19 +58,12 @@ same_reading : (f g : List ℕ → Reading) (next : Next) (n : ℕ) → IsLeftSh
 same_reading f g (Another r rest) n shorter same = ap (with_record r) (same rest shorter)
 same_reading f g (Ends end) n shorter same = refl
 
--- a bound above the octets leaves no record out
-first_records-enough : (n m : ℕ) (style : Style) (text : List ℕ) → length text < n → length text < m → first_records n style text ≡ first_records m style text
-unfolding first_records
-first_records-enough zero m style text a b = absurd (omega arith)
-first_records-enough (suc n) zero style text a b = absurd (omega arith)
-first_records-enough (suc n) (suc m) style text a b =
-    same_reading (first_records n style) (first_records m style) (next_of style text) (length text) (next_of-shorter style text) (λ rest shorter. first_records-enough n m style rest (omega arith) (omega arith))
-
 -- the records of a text are what comes next and the records behind it
 pub records-next : (style : Style) (text : List ℕ) → records style text ≡ reading_by (records style) (next_of style text)
 unfolding records first_records
 records-next style text =
-    same_reading (first_records (length text) style) (records style) (next_of style text) (length text) (next_of-shorter style text) (λ rest shorter. first_records-enough (length text) (suc (length rest)) style rest (omega arith) (omega arith))
+    one_step length (λ n. first_records n style) (λ more text. reading_by more (next_of style text)) (λ n text. refl)
+    (λ f g text same. same_reading f g (next_of style text) (length text) (next_of-shorter style text) (λ rest shorter. same rest (omega (arith, shorter)))) text
 
 -- an empty text has none
 pub records-nothing : (style : Style) → records style [] ≡ whole []

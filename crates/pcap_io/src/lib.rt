@@ -5,7 +5,7 @@
 //! microseconds or nanoseconds, and its `next` hands out each [`Record`], whose octets are a slice of the capture.
 //! [`put_header`] and [`put_record`] write a capture, little-endian and in nanoseconds. Who reads or writes piece by piece
 //! finds the headers alone: [`open_header`] and [`open_record`] read them, [`global_header`] and [`record_header`] are those
-//! that are written.
+//! that are written, and [`record_head`] is the latter where a record holds less than its frame had.
 //!
 //! Specs to read, in order: `specs/Style`, `specs/Header`, `specs/RecordText`, `specs/Capture`, `specs/Reading`, `specs/Next`,
 //! `specs/Written`.
@@ -30,4 +30,4 @@ pub use capture::Capture;
 pub use header::{CaptureFault, HEADER_LENGTH, open_header};
 pub use record::{LONGEST, RECORD_HEADER_LENGTH, Record, RecordFault, RecordHeader, open_record};
 pub use style::{Order, Precision, Style};
-pub use write::{global_header, put_header, put_record, record_header};
+pub use write::{global_header, put_header, put_record, record_head, record_header};

@@ -33,18 +33,27 @@ pub fn put_header(out: &mut Vec<u8>) -> Result<(), AllocError>
     out.extend_from_slice(&global_header())
 }
 
-/// What stands before the octets of a record that holds a whole frame, by its length. `moment` is in nanoseconds, at
-/// most 4,294,967,295,999,999,999.
-pub fn record_header(moment: u64, size: u32) -> [u8; RECORD_HEADER_LENGTH]
+/// What stands before the octets of a record, by its moment, how many octets it has, and how many the frame had. `moment` is
+/// in nanoseconds, at most 4,294,967,295,999,999,999.
+#[inline]
+pub fn record_head(moment: u64, captured: u32, original: u32) -> [u8; RECORD_HEADER_LENGTH]
     requires { moment ≤ last_moment }
-    ensures { result ≡ record_header_of moment size size }
+    ensures { result ≡ record_header_of moment captured original }
 {
     let mut header = [0; RECORD_HEADER_LENGTH];
     LittleEndian::write_u32(&mut header, (moment / SECOND) as u32);
     LittleEndian::write_u32(&mut header[4..], (moment % SECOND) as u32);
-    LittleEndian::write_u32(&mut header[8..], size);
-    LittleEndian::write_u32(&mut header[12..], size);
+    LittleEndian::write_u32(&mut header[8..], captured);
+    LittleEndian::write_u32(&mut header[12..], original);
     header
+}
+
+/// The same of a record that holds its whole frame, of `size` octets.
+pub fn record_header(moment: u64, size: u32) -> [u8; RECORD_HEADER_LENGTH]
+    requires { moment ≤ last_moment }
+    ensures { result ≡ record_header_of moment size size }
+{
+    record_head(moment, size, size)
 }
 
 /// Adds octets for which there is room.

@@ -5,4 +5,5 @@ pub mod Fetching
 pub mod HeldNext
 pub mod Parts
 pub mod Records
+pub mod Refusals
 pub mod Runs

@@ -115,31 +115,7 @@ impl<W: Output> BlockOutput<W> {
         Ok(octets.len())
     }
 
-    /// The same of a write of all of them.
-    #[cold]
-    #[inline(never)]
-    fn write_all_on(&mut self, octets: &[u8]) -> Result<(), WriteFault>
-        requires { 0 < length octets.now }
-        ensures ok { OnOk result (Appends (told self.old) (told self.new) octets.now) }
-        ensures err { OnErr result (AppendsPart (told self.old) (told self.new) octets.now) }
-        ensures quiet { OnOk result (self.new.failures ≡ self.old.failures) }
-        ensures cause { OnErr result (GoesOnBy 1 self.old.failures self.new.failures) }
-        ensures held { OnOk result (HoldsBack (length octets.now) self.old self.new octets.now) }
-        ensures rest { OnErr result (HoldsRest (length octets.now) self.old self.new) }
-        ensures size { self.new.size ≡ self.old.size }
-    {
-        if !self.block.may_hold(octets.len()) {
-            self.finish()?;
-            if !self.block.may_hold(octets.len()) {
-                return self.output.write_all(octets);
-            }
-        }
-        self.block.widen(octets.len());
-        self.block.put(octets);
-        Ok(())
-    }
-
-    /// The same of a write of five texts.
+    /// The same of a write of all that five texts hold, of which some may be empty, but not all.
     #[cold]
     #[inline(never)]
     fn write_gathered_on(
@@ -235,7 +211,7 @@ impl<W: Output> Output for BlockOutput<W> {
         ensures size { self.new.size ≡ self.old.size }
     {
         if octets.len() > self.block.free() {
-            return self.write_all_on(octets);
+            return self.write_gathered_on(&[], &[], &[], &[], octets);
         }
         self.block.put(octets);
         Ok(())

@@ -38,3 +38,4 @@ pub use input::{Input, StdInput, read_behind};
 pub use output::{Output, StdOutput};
 pub use sink::Sink;
 pub use source::Source;
+pub use write::put_behind;

@@ -59,7 +59,7 @@ pub(crate) const FRONT: usize = 102;
 
 /// Puts a text behind the first `at` octets of a room, and says where it ends.
 #[inline(always)]
-pub(crate) fn put_behind(room: &mut [u8], at: usize, text: &[u8]) -> usize
+pub fn put_behind(room: &mut [u8], at: usize, text: &[u8]) -> usize
     requires { at + length text.now ≤ length room.old }
     ensures end { result ≡ at + length text.now }
     ensures text { take result room.new ≡ take at room.old ++ text.now }

@@ -1,7 +1,7 @@
 -- Rows by their numbers.
 use Rattle.std.proofs.Common.{◌≡◌, ◌∙◌, ap, sym, refl, subst, ℕ, zero, suc, ◌+◌, ◌-◌, ◌<◌, ◌≤◌, Bool, true, false, nat_lt, List, [], ◌∷◌, ◌++◌, length, take, drop, get_or, slice_set, arith, append_assoc, length-append}
 use Rattle.std.proofs.lemmas.Bool.{cond-false, cond-true, lt-ltb, ltb-true, ltb-false, le-ltb}
-use Rattle.std.proofs.lemmas.List.{get_or_append_left, get_or_default}
+use Rattle.std.proofs.lemmas.List.{drop_all, drop_at, get_or_append_left, get_or_default, length-set, take_all, take_at}
 use Rattle.std.proofs.lemmas.List.Edits.{insert_end, length-insert}
 use Rattle.std.proofs.lemmas.List.Elements.{All-head, All-push, All-tail, All-weaker, Contains-append_left, Contains-push}
 use Rattle.std.proofs.lemmas.List.Sorted.{All-permutation, Contains-permutation, IsPermutation-insert, IsPermutation-sym, IsPermutation-trans}
@@ -10,7 +10,7 @@ use Rattle.std.specs.List.{All, Contains, insert}
 use Rattle.std.specs.List.Sorted.{IsPartitionPoint, IsPartitionedBy, IsPermutation}
 use Rattle.ranked_rows.specs.Rows.{AreRising, AreRisingFrom, IsNumbering, IsPlaceOf, row_at, row_of, rows_by, stands_before, with_counts}
 use Rattle.ranked_rows.specs.declared.row.Row.{Row}
-use Rattle.ranked_rows.proofs.Lists.{drop_entered, drop_last, drop_whole, length_set, take_entered, take_front, take_whole}
+use Rattle.ranked_rows.proofs.Lists.{drop_entered, take_entered}
 use Rattle.ranked_rows.proofs.Places.{never_falls, rises, rising_at}
 
 -- ---- numbers alone
@@ -130,7 +130,7 @@ module _ {K C : Type 0} where
 
   pub numbers_taken : (rows : List (Row K C)) (ms : List ℕ) (i n : ℕ) (v : Row K C) → i ≤ length ms → IsNumbering rows (ms ++ n ∷ []) → IsNumbering (slice_set rows n v) (insert ms i n)
   numbers_taken rows ms i n v inside is =
-      let long : length (slice_set rows n v) ≡ length rows = length_set rows n v in
+      let long : length (slice_set rows n v) ≡ length rows = length-set rows n v in
       record {
         inside = All-permutation (λ (m : ℕ). m < length (slice_set rows n v)) (ms ++ n ∷ []) (insert ms i n) (perm_pushed ms i n) (All-weaker (λ (m : ℕ). m < length rows) (λ (m : ℕ). m < length (slice_set rows n v)) (λ m lt. omega (arith, lt, long)) (ms ++ n ∷ []) is.inside);
         whole = λ m lt. Contains-permutation (ms ++ n ∷ []) (insert ms i n) m (perm_pushed ms i n) (is.whole m (omega (arith, lt, long)));
@@ -139,7 +139,7 @@ module _ {K C : Type 0} where
 
   pub numbers_set : (rows : List (Row K C)) (order : List ℕ) (n : ℕ) (v : Row K C) → IsNumbering rows order → IsNumbering (slice_set rows n v) order
   numbers_set rows order n v is =
-      let long : length (slice_set rows n v) ≡ length rows = length_set rows n v in
+      let long : length (slice_set rows n v) ≡ length rows = length-set rows n v in
       record {
         inside = All-weaker (λ (m : ℕ). m < length rows) (λ (m : ℕ). m < length (slice_set rows n v)) (λ m lt. omega (arith, lt, long)) order is.inside;
         whole = λ m lt. is.whole m (omega (arith, lt, long));
@@ -170,6 +170,15 @@ module _ {K C : Type 0} where
       let are : AreIn more order = All-weaker (λ (n : ℕ). n < length rows) (λ (n : ℕ). n < length more) (λ n lt. omega (arith, lt, long)) order is.inside in
       by_inserted more order i (length rows) r inside are (at_end rows r) ∙ ap (λ l. insert l i r) (by_pushed rows r order is.inside)
 
+  -- the same of a table that took it
+  pub appended : (rows more : List (Row K C)) (order new : List ℕ) (i n : ℕ) (r : Row K C) → more ≡ rows ++ r ∷ [] → new ≡ insert order i n → n ≡ length rows → i ≤ length order → IsNumbering rows order
+      → (rows_by more new ≡ insert (rows_by rows order) i r) × IsNumbering more new
+  appended rows more order new i n r pushed put is inside numbers =
+      let inserted : new ≡ insert order i (length rows) = put ∙ ap (λ (k : ℕ). insert order i k) is in (
+        ap (λ (l : List (Row K C)). rows_by l new) pushed ∙ ap (λ (l : List ℕ). rows_by (rows ++ r ∷ []) l) inserted ∙ by_appended rows order i r inside numbers,
+        subst (λ (l : List (Row K C)). IsNumbering l new) (sym pushed) (subst (λ (l : List ℕ). IsNumbering (rows ++ r ∷ []) l) (sym inserted) (numbers_pushed rows order i r inside numbers)),
+      )
+
 -- ---- ranks
 
 module _ {K C : Type 0} (rank : K → ℕ) where
@@ -198,30 +207,69 @@ module _ {K C : Type 0} (rank : K → ℕ) where
   pub by_taken : (rows : List (Row K C)) (ms : List ℕ) (i n : ℕ) (r : Row K C) → i ≤ length ms → AreRising rank (rows_by rows (ms ++ n ∷ [])) → IsNumbering rows (ms ++ n ∷ []) → n < length rows → rows_by (slice_set rows n r) (insert ms i n) ≡ insert (rows_by rows ms) i r
   by_taken rows ms i n r inside rising is inside_n =
       let new = slice_set rows n r in
-      let long : length new ≡ length rows = length_set rows n r in
+      let long : length new ≡ length rows = length-set rows n r in
       let are = front_in rows ms n is in
       by_inserted new ms i n r inside (All-weaker (λ (m : ℕ). m < length rows) (λ (m : ℕ). m < length new) (λ m lt. omega (arith, lt, long)) ms are) (at_set rows n r inside_n)
       ∙ ap (λ (l : List (Row K C)). insert l i r) (by_kept rows n r ms (apart_before rows ms n r rising is.inside inside_n))
 
-  pub taken_shown : (most : ℕ) (rows : List (Row K C)) (ms : List ℕ) (i n : ℕ) (r : Row K C) → i ≤ length ms → AreRising rank (rows_by rows (ms ++ n ∷ [])) → IsNumbering rows (ms ++ n ∷ []) → n < length rows → length ms ≡ most
-      → rows_by (slice_set rows n r) (insert ms i n) ≡ take (suc most) (insert (rows_by rows (ms ++ n ∷ [])) i r)
-  taken_shown most rows ms i n r inside rising is inside_n long =
-      let x = get_or rows n r in
-      let front = rows_by rows ms in
-      let many : length front ≡ most = length_by rows ms (front_in rows ms n is) ∙ long in
-      by_taken rows ms i n r inside rising is inside_n
-      ∙ sym (ap (λ (l : List (Row K C)). take (suc most) (insert l i r)) (by_more rows ms n x (one_of rows n r inside_n))
-      ∙ take_entered most (front ++ x ∷ []) i r (omega (arith, inside, long)) (omega (arith, inside, long, many, length-append front (x ∷ [])))
-      ∙ ap (λ (l : List (Row K C)). insert l i r) (take_front most front x many))
+  -- ---- the last number goes, and comes to another place
 
-  pub taken_rest : (most : ℕ) (rows : List (Row K C)) (ms : List ℕ) (i n : ℕ) (r x : Row K C) → i ≤ length ms → IsNumbering rows (ms ++ n ∷ []) → n < length rows → length ms ≡ most → x ≡ get_or rows n x
-      → drop (suc most) (insert (rows_by rows (ms ++ n ∷ [])) i r) ≡ x ∷ []
-  taken_rest most rows ms i n r x inside is inside_n long same =
-      let front = rows_by rows ms in
-      let many : length front ≡ most = length_by rows ms (front_in rows ms n is) ∙ long in
-      ap (λ (l : List (Row K C)). drop (suc most) (insert l i r)) (by_more rows ms n x (one_of rows n x inside_n ∙ ap (λ (y : Row K C). y ∷ []) (sym same)))
-      ∙ drop_entered most (front ++ x ∷ []) i r (omega (arith, inside, long)) (omega (arith, inside, long, many, length-append front (x ∷ [])))
-      ∙ drop_last most front x many
+  -- the last of the numbers of so many rows and one more, and the place to which it comes
+  pub record TakesLast (most : ℕ) (rows : List (Row K C)) (order ms : List ℕ) (i m n : ℕ) : Type 0 where
+    pub parts : order ≡ ms ++ m ∷ []
+    pub same : m ≡ n
+    pub numbers : IsNumbering rows order
+    pub full : length rows ≡ suc most
+    pub inside : i < length order
+
+  pub takes_last : (most : ℕ) {rows : List (Row K C)} {order ms : List ℕ} {i m n : ℕ} → order ≡ ms ++ m ∷ [] → m ≡ n → IsNumbering rows order → length rows ≡ suc most → i < length order → TakesLast most rows order ms i m n
+  takes_last most parts same numbers full inside = record { parts = parts; same = same; numbers = numbers; full = full; inside = inside }
+
+  module _ {most : ℕ} {rows : List (Row K C)} {order ms : List ℕ} {i m n : ℕ} (takes : TakesLast most rows order ms i m n) (r : Row K C) where
+    is_last : order ≡ ms ++ n ∷ []
+    is_last = takes.parts ∙ ap (λ (k : ℕ). ms ++ k ∷ []) takes.same
+
+    own : IsNumbering rows (ms ++ n ∷ [])
+    own = subst (λ (l : List ℕ). IsNumbering rows l) is_last takes.numbers
+
+    pub front_long : length ms ≡ most
+    front_long = omega (arith, length-append ms (n ∷ []), own.many, takes.full)
+
+    low : i ≤ length ms
+    low = omega (arith, takes.inside, takes.numbers.many, takes.full, front_long)
+
+    inserted : (new : List ℕ) → new ≡ insert ms i m → new ≡ insert ms i n
+    inserted new put = put ∙ ap (λ (k : ℕ). insert ms i k) takes.same
+
+    -- the front of the rows, and the last of them
+    ends : (x : Row K C) → x ≡ get_or rows n x → rows_by rows order ≡ rows_by rows ms ++ x ∷ []
+    ends x at = ap (λ (l : List ℕ). rows_by rows l) is_last ∙ by_more rows ms n x (one_of rows n x (last_in rows ms n own) ∙ ap (λ (y : Row K C). y ∷ []) (sym at))
+
+    many : length (rows_by rows ms) ≡ most
+    many = length_by rows ms (front_in rows ms n own) ∙ front_long
+
+    within : (x : Row K C) → i ≤ length (rows_by rows ms ++ x ∷ [])
+    within x = omega (arith, low, front_long, many, length-append (rows_by rows ms) (x ∷ []))
+
+    pub taken_shown : (new : List ℕ) → new ≡ insert ms i m → AreRising rank (rows_by rows order) → rows_by (slice_set rows n r) new ≡ take (suc most) (insert (rows_by rows order) i r)
+    taken_shown new put rising =
+        let x = get_or rows n r in
+        let front = rows_by rows ms in
+        ap (λ (l : List ℕ). rows_by (slice_set rows n r) l) (inserted new put)
+        ∙ by_taken rows ms i n r low (subst (λ (l : List ℕ). AreRising rank (rows_by rows l)) is_last rising) own (last_in rows ms n own)
+        ∙ sym (ap (λ (l : List (Row K C)). take (suc most) (insert l i r)) (ends x (get_or_default rows n r x (last_in rows ms n own)))
+        ∙ take_entered most (front ++ x ∷ []) i r (omega (arith, low, front_long)) (within x)
+        ∙ ap (λ (l : List (Row K C)). insert l i r) (take_at front (x ∷ []) most many))
+
+    pub taken_rest : (x : Row K C) → x ≡ get_or rows n x → drop (suc most) (insert (rows_by rows order) i r) ≡ x ∷ []
+    taken_rest x at =
+        let front = rows_by rows ms in
+        ap (λ (l : List (Row K C)). drop (suc most) (insert l i r)) (ends x at)
+        ∙ drop_entered most (front ++ x ∷ []) i r (omega (arith, low, front_long)) (within x)
+        ∙ drop_at front (x ∷ []) most many
+
+    pub taken_numbers : (new : List ℕ) → new ≡ insert ms i m → IsNumbering (slice_set rows n r) new
+    taken_numbers new put = subst (λ (l : List ℕ). IsNumbering (slice_set rows n r) l) (sym (inserted new put)) (numbers_taken rows ms i n r low own)
 
   -- ---- none
 
@@ -339,7 +387,7 @@ module _ {K C : Type 0} (rank : K → ℕ) where
         let v = row_of (get_or rows n d).key (joined (get_or rows n d).counts counts) in
         let set = slice_set rows n v in
         let long : length (rows_by set order) ≤ most = omega (arith, few, is.many, length_by set order (numbers_set rows order n v is).inside) in
-        ap (λ (l : List (Row K C)). rows_by l order) more ∙ sym (ap (take most) (more_by rows order n d rising is inside same) ∙ take_whole most (rows_by set order) long)
+        ap (λ (l : List (Row K C)). rows_by l order) more ∙ sym (ap (take most) (more_by rows order n d rising is inside same) ∙ take_all most (rows_by set order) long)
 
     pub more_rest : (most : ℕ) (rows : List (Row K C)) (order : List ℕ) (n : ℕ) (d : Row K C) → AreRising rank (rows_by rows order) → IsNumbering rows order → length rows ≤ most → n < length rows → rank_by rows n d ≡ rank key
         → drop most (counting (rows_by rows order)) ≡ []
@@ -347,4 +395,4 @@ module _ {K C : Type 0} (rank : K → ℕ) where
         let v = row_of (get_or rows n d).key (joined (get_or rows n d).counts counts) in
         let set = slice_set rows n v in
         let long : length (rows_by set order) ≤ most = omega (arith, few, is.many, length_by set order (numbers_set rows order n v is).inside) in
-        ap (drop most) (more_by rows order n d rising is inside same) ∙ drop_whole most (rows_by set order) long
+        ap (drop most) (more_by rows order n d rising is inside same) ∙ drop_all most (rows_by set order) long

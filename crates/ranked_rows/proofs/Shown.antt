@@ -1,8 +1,10 @@
 -- The first rows of a map, as more is counted.
-use Rattle.std.proofs.Common.{◌≡◌, ◌∙◌, ap, sym, refl, ℕ, zero, suc, Bool, true, false, cond, nat_lt, List, [], ◌∷◌, take, drop}
+use Rattle.std.proofs.Common.{◌≡◌, ◌∙◌, ap, sym, refl, ℕ, zero, suc, Bool, true, false, cond, nat_lt, List, [], ◌∷◌, take, drop, arith}
+use Rattle.std.proofs.Math.Seq.{drop-nil, take-nil}
+use Rattle.std.proofs.lemmas.List.{take-take}
 use Rattle.ranked_rows.specs.Rows.{Rows, all_counts, counted_all, counted_in, no_rows, row_of, shown, total, with_counts}
 use Rattle.ranked_rows.specs.declared.row.Row.{Row}
-use Rattle.ranked_rows.proofs.Lists.{drop_none, drop_taken, take_less, take_none, take_same}
+use Rattle.ranked_rows.proofs.Lists.{drop_taken}
 
 -- what counts come to together
 pub record AreSums {C : Type 0} (joined : C → C → C) (none : C) : Type 0 where
@@ -66,13 +68,13 @@ module _ {K C : Type 0} (rank : K → ℕ) (joined : C → C → C) (none : C) (
           → take (suc n) (cond p (row ∷ with_counts rank joined key counts (take n rows)) (cond q (row_of key counts ∷ row ∷ take n rows) (row_of row.key (joined row.counts counts) ∷ take n rows)))
           ≡ take (suc n) (cond p (row ∷ with_counts rank joined key counts rows) (cond q (row_of key counts ∷ row ∷ rows) (row_of row.key (joined row.counts counts) ∷ rows)))
       by true q more = ap (λ ys. row ∷ ys) more
-      by false true more = ap (λ ys. row_of key counts ∷ ys) (take_less n (row ∷ rows))
-      by false false more = ap (λ ys. row_of row.key (joined row.counts counts) ∷ ys) (take_same n rows)
+      by false true more = ap (λ ys. row_of key counts ∷ ys) (take-take n (suc n) (row ∷ rows) (omega arith))
+      by false false more = ap (λ ys. row_of row.key (joined row.counts counts) ∷ ys) (take-take n n rows (omega arith))
 
   others_more : (n : ℕ) (key : K) (counts : C) (rows : List (Row K C))
       → joined (sum (drop n rows)) (sum (drop n (with_counts rank joined key counts (take n rows)))) ≡ sum (drop n (with_counts rank joined key counts rows))
   others_more zero key counts rows = sym (sum_more key counts rows)
-  others_more (suc n) key counts [] = ap (λ rows. joined none (sum rows)) (drop_none n [] refl) ∙ sums.nothing ∙ ap sum (sym (drop_none n [] refl))
+  others_more (suc n) key counts [] = ap (λ rows. joined none (sum rows)) (drop-nil n) ∙ sums.nothing ∙ ap sum (sym (drop-nil n))
   others_more (suc n) key counts (row ∷ rows) = by (nat_lt (rank row.key) (rank key)) (nat_lt (rank key) (rank row.key)) (others_more n key counts rows)
     where
       by : (p q : Bool) → joined (sum (drop n rows)) (sum (drop n (with_counts rank joined key counts (take n rows)))) ≡ sum (drop n (with_counts rank joined key counts rows))
@@ -85,8 +87,8 @@ module _ {K C : Type 0} (rank : K → ℕ) (joined : C → C → C) (none : C) (
   pub shown_more : (n : ℕ) (rows : List (Row K C)) (key : K) (counts : C) → counted_in rank joined none n (shown joined none n rows) key counts ≡ shown joined none n (with_counts rank joined key counts rows)
   shown_more n rows key counts = λ i. record { rows = rows_more n key counts rows i; others = others_more n key counts rows i }
 
-  none_shown : (n : ℕ) (rows : List (Row K C)) → [] ≡ rows → no_rows none ≡ shown joined none n rows
-  none_shown n rows e = λ i. record { rows = sym (take_none n rows e) i; others = ap sum (sym (drop_none n rows e)) i }
+  none_shown : (n : ℕ) → no_rows {K = K} none ≡ shown {K = K} joined none n []
+  none_shown n = λ i. record { rows = sym (take-nil n) i; others = ap sum (sym (drop-nil n)) i }
 
   shown_all : (rows more : List (Row K C)) → counted_all rank joined none (shown joined none 4096 rows) more ≡ shown joined none 4096 (all_counts rank joined rows more)
   shown_all rows [] = refl
@@ -94,4 +96,4 @@ module _ {K C : Type 0} (rank : K → ℕ) (joined : C → C → C) (none : C) (
       ap (λ (table : Rows K C). counted_all rank joined none table more) (shown_more 4096 rows row.key row.counts) ∙ shown_all (with_counts rank joined row.key row.counts rows) more
 
   pub all_shown : (rows : List (Row K C)) → counted_all rank joined none (no_rows none) rows ≡ shown joined none 4096 (all_counts rank joined [] rows)
-  all_shown rows = ap (λ (table : Rows K C). counted_all rank joined none table rows) (none_shown 4096 [] refl) ∙ shown_all [] rows
+  all_shown rows = ap (λ (table : Rows K C). counted_all rank joined none table rows) (none_shown 4096) ∙ shown_all [] rows

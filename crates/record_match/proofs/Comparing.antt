@@ -1,7 +1,7 @@
 -- Records that come in turn.
 use Rattle.std.proofs.Common.{◌≡◌, ℕ, ◌+◌, ◌<◌, ◌≤◌, Bool, true, false, nat_lt, List, [], ◌∷◌, ◌++◌, length, map, if◌then◌else◌, refl, sym, ap, ◌∙◌, subst, arith, append_assoc, length-append, Option, Some, None, ◌-◌}
 use Rattle.std.proofs.lemmas.List.{append-nil}
-use borrow.Author.Tests.{ltb-false, ltb-true}
+use Rattle.std.proofs.lemmas.Bool.{lt-ltb, ltb-true}
 use Rattle.record_match.specs.Compared.{AreBefore, Comparison, IsCompared, octets_in}
 use Rattle.record_match.specs.Laws.{AreOver}
 use Rattle.record_match.specs.Settled.{Fact, Both, ReceivedAlone, SentAlone, alone_from, alone_of, fact_by, gone_alone, held_alone, of_received, of_sent, over_alone, sent_moment, told_from}
@@ -19,16 +19,9 @@ over-later within now later s le h = by s.is_taken refl
     by false g =
         let past : nat_lt (s.moment + within) now ≡ true = rw g at h in
         let less : s.moment + within < later = omega (arith, le, ltb-true (s.moment + within) now past) in
-        rw (g, lt-true (s.moment + within) later less) refl
-      where
-        lt-true : (m n : ℕ) → m < n → nat_lt m n ≡ true
-        lt-true m n l = on (nat_lt m n) refl
-          where
-            on : (q : Bool) → nat_lt m n ≡ q → nat_lt m n ≡ true
-            on true g = g
-            on false g = absurd (omega (arith, l, ltb-false m n g))
+        rw (g, lt-ltb (s.moment + within) later less) refl
 
-are-over-later : (within now later : ℕ) (ss : List Sent) → now ≤ later → AreOver within now ss → AreOver within later ss
+pub are-over-later : (within now later : ℕ) (ss : List Sent) → now ≤ later → AreOver within now ss → AreOver within later ss
 are-over-later within now later [] le h = tt
 are-over-later within now later (s ∷ ss) le h = (over-later within now later s le h.0, are-over-later within now later ss le h.1)
 

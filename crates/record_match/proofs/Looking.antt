@@ -4,7 +4,7 @@ use Rattle.std.proofs.lemmas.Bool.{eqb-true}
 use Rattle.std.specs.List.{FoldsTo}
 use Rattle.record_match.specs.Kept.{laid}
 use Rattle.record_match.specs.Match.{Record, Sent}
-use Rattle.record_match.specs.Settled.{Fact, SentAlone, alone_of, first_alone, held_alone, over_alone}
+use Rattle.record_match.specs.Settled.{Fact, SentAlone, Shows, alone_of, first_alone, held_alone, over_alone}
 use Rattle.record_match.specs.Window.{Window, is_first_over}
 use Rattle.record_match.specs.declared.kept.Kept.{Kept}
 use Rattle.record_match.proofs.Laying.{laid-length}
@@ -16,6 +16,10 @@ module _ {W : Type 0} (sees : W → Fact → W → Type 0) where
 
   pub folds-one : (old : W) (xs : List Fact) (middle : W) (x : Fact) (new : W) → FoldsTo sees old xs middle → sees middle x new → FoldsTo sees old (xs ++ x ∷ []) new
   folds-one old xs middle x new h g = folds-append old xs middle (x ∷ []) new h (new, g, refl)
+
+  -- what was told so far, and some facts more
+  pub shows-more : {P Q : List Fact → Type 0} (start old new : W) (facts : List Fact) (h : Shows sees start old P) → FoldsTo sees old facts new → Q (h.facts ++ facts) → Shows sees start new Q
+  shows-more start old new facts h seen so = record { facts = h.facts ++ facts; seen = folds-append start h.facts old facts new h.seen seen; so = so }
 
   -- what is told from now on is the rest of all
   abbrev pub Continues : W → List Fact → W → List Fact → Type 0

@@ -1,6 +1,6 @@
 -- Records that are received.
-use Rattle.std.proofs.Common.{◌≡◌, ℕ, zero, suc, ◌+◌, ◌<◌, ◌≤◌, Bool, true, false, not, ◌&&◌, ◌||◌, nat_le, nat_lt, List, [], ◌∷◌, ◌++◌, length, map, get_or, set, refl, sym, ap, ◌∙◌, arith, Option, Some, None}
-use borrow.Author.Tests.{leb-false, leb-true, ltb-true}
+use Rattle.std.proofs.Common.{◌≡◌, ℕ, zero, suc, ◌+◌, ◌<◌, Bool, true, false, not, ◌&&◌, ◌||◌, nat_le, nat_lt, List, [], ◌∷◌, ◌++◌, length, map, get_or, set, refl, sym, ap, ◌∙◌, arith, Option, Some, None}
+use Rattle.std.proofs.lemmas.Bool.{le-leb, lt-leb, ltb-true}
 use Rattle.header_octets.proofs.OctetsLemmas.{is_same-refl}
 use Rattle.record_match.specs.Laws.{AreLater, EachIsTold, HeldIsEnough, ItselfIsWhole, NoneIsLeft, is_any_known}
 use Rattle.record_match.specs.Match.{Record, Sent, as_sent, is_known, is_met_by, is_within, lonely_among, met, met_all, received_count, taken}
@@ -56,20 +56,7 @@ met-none within r (s ∷ sent) d none =
 -- ---- a list with itself
 
 now-met : (within : ℕ) (r : Record) → is_met_by within r (as_sent r) ≡ true
-now-met within r = rw (is_same-refl r.octets, le-refl r.moment, le-more r.moment within) refl
-  where
-    le-true : (m n : ℕ) → m ≤ n → nat_le m n ≡ true
-    le-true m n h = by (nat_le m n) refl
-      where
-        by : (q : Bool) → nat_le m n ≡ q → nat_le m n ≡ true
-        by true g = g
-        by false g = absurd (omega (arith, h, leb-false m n g))
-
-    le-refl : (n : ℕ) → nat_le n n ≡ true
-    le-refl n = le-true n n (omega arith)
-
-    le-more : (n m : ℕ) → nat_le n (n + m) ≡ true
-    le-more n m = le-true n (n + m) (omega arith)
+now-met within r = rw (is_same-refl r.octets, le-leb r.moment r.moment (omega arith), le-leb r.moment (r.moment + within) (omega arith)) refl
 
 met-itself : (within : ℕ) (done : List Record) (r : Record) (rest : List Sent)
     → met within r (map (λ r. taken (as_sent r)) done ++ as_sent r ∷ rest) ≡ map (λ r. taken (as_sent r)) done ++ taken (as_sent r) ∷ rest
@@ -183,14 +170,7 @@ none_is_left within sent received = none-among within (map as_sent sent) receive
 
 -- ---- what is held is enough
 
-le-not : (m n : ℕ) → n < m → nat_le m n ≡ false
-le-not m n h = by (nat_le m n) refl
-  where
-    by : (q : Bool) → nat_le m n ≡ q → nat_le m n ≡ false
-    by false g = g
-    by true g = absurd (omega (arith, h, leb-true m n g))
-
-and-false : (a b : Bool) → b ≡ false → (a && b) ≡ false
+pub and-false : (a b : Bool) → b ≡ false → (a && b) ≡ false
 and-false true b h = h
 and-false false b h = refl
 
@@ -204,10 +184,10 @@ over-not within r s h = by s.is_taken refl
     by true g = is-taken-not within r s g
     by false g =
         let past : nat_lt (s.moment + within) r.moment ≡ true = rw g at h in
-        not-within within r s (and-false (nat_le s.moment r.moment) (nat_le r.moment (s.moment + within)) (le-not r.moment (s.moment + within) (ltb-true (s.moment + within) r.moment past)))
+        not-within within r s (and-false (nat_le s.moment r.moment) (nat_le r.moment (s.moment + within)) (lt-leb r.moment (s.moment + within) (ltb-true (s.moment + within) r.moment past)))
 
 pub later-not : (within : ℕ) (r : Record) (s : Sent) → r.moment < s.moment → is_met_by within r s ≡ false
-later-not within r s h = not-within within r s (rw (le-not s.moment r.moment h) refl)
+later-not within r s h = not-within within r s (rw (lt-leb s.moment r.moment h) refl)
 
 none-later : (within : ℕ) (r : Record) (later : List Sent) → AreLater r.moment later → met within r later ≡ later
 none-later within r [] h = refl

@@ -12,6 +12,7 @@ use Rattle.record_match.specs.declared.kept.Ends.{Ends}
 use Rattle.record_match.proofs.Indexing.{Order, Less, Same, More, in_order}
 use Rattle.record_match.specs.declared.kept.Kept.{Kept}
 use Rattle.record_match.proofs.Laying.{bucket-at, laid-at, laid-length, laid-octets, laid-set}
+use Rattle.record_match.proofs.Meeting.{and-false}
 
 -- ---- the model of a window
 
@@ -119,10 +120,6 @@ over-none within now [] h = refl
 over-none within now (s ∷ held) h = rw h refl
 
 -- ---- records that aren't looked for
-
-and-false : (a b : Bool) → b ≡ false → (a && b) ≡ false
-and-false true b h = h
-and-false false b h = refl
 
 taken-not : (within : ℕ) (r : Record) (s : Sent) → s.is_taken ≡ true → is_met_by within r s ≡ false
 taken-not within r s h = rw h refl

@@ -1,11 +1,11 @@
 -- Texts that are the same, word by word.
-use Rattle.std.proofs.Common.{◌≡◌, ℕ, zero, suc, ◌+◌, ◌-◌, ◌<◌, ◌≤◌, true, List, [], ◌∷◌, ◌++◌, length, take, drop, refl, sym, ap, ◌∙◌, arith, length-drop}
-use Rattle.std.proofs.lemmas.List.{take_all}
+use Rattle.std.proofs.Common.{◌≡◌, ℕ, zero, suc, ◌+◌, ◌-◌, ◌<◌, ◌≤◌, Bool, ◌&&◌, List, [], ◌∷◌, ◌++◌, length, take, drop, refl, sym, ap, ◌∙◌, arith, length-drop}
+use Rattle.std.proofs.lemmas.Bool.{eq-eqb}
 use Rattle.std.proofs.Math.Seq.{take-add}
 use Rattle.byteorder.specs.Endian.{little_from, little_number}
 use Rattle.byteorder.specs.Numbers.{little_from-cons, little_from-take}
 use Rattle.header_octets.specs.Octets.{IsText, is_same}
-use Rattle.header_octets.proofs.OctetsLemmas.{IsText-drop, is_same-refl}
+use Rattle.header_octets.proofs.OctetsLemmas.{IsText-drop}
 
 -- octets whose number is the same are the same
 words-same : (n : ℕ) (a b : List ℕ) → IsText a → IsText b → n ≤ length a → n ≤ length b → little_from 0 n a ≡ little_from 0 n b → take n a ≡ take n b
@@ -33,8 +33,13 @@ more-same at a b p q lengths there front e =
     let word = words-same 8 (drop at a) (drop at b) (IsText-drop at a p) (IsText-drop at b q) (omega (arith, la, there)) (omega (arith, lb, there, lengths)) (sym one ∙ e ∙ other) in
     take-add at 8 a ∙ ap (λ (l : List ℕ). l ++ take 8 (drop at a)) front ∙ ap (λ (l : List ℕ). take at b ++ l) word ∙ sym (take-add at 8 b)
 
--- texts that are the same up to their end are the same
-pub all-same : (at : ℕ) (a b : List ℕ) → length a ≡ length b → length a ≤ at → take at a ≡ take at b → true ≡ is_same a b
-all-same at a b lengths over front =
-    let same : a ≡ b = sym (take_all at a over) ∙ front ∙ take_all at b (omega (arith, lengths, over)) in
-    sym (is_same-refl b) ∙ ap (λ (l : List ℕ). is_same l b) (sym same)
+-- texts that are the same up to a place are the same where the rest is
+pub same-behind : (at : ℕ) (a b : List ℕ) → length a ≡ length b → take at a ≡ take at b → is_same (drop at a) (drop at b) ≡ is_same a b
+same-behind zero a b l e = refl
+same-behind (suc n) [] [] l e = refl
+same-behind (suc n) [] (y ∷ b) l e = absurd (omega (arith, l))
+same-behind (suc n) (x ∷ a) [] l e = absurd (omega (arith, l))
+same-behind (suc n) (x ∷ a) (y ∷ b) l e =
+    let first : x ≡ y = cc in
+    let rest : take n a ≡ take n b = cc in
+    same-behind n a b (omega (arith, l)) rest ∙ sym (ap (λ (q : Bool). q && is_same a b) (eq-eqb x y first))

@@ -1,5 +1,5 @@
 //! Whether two texts are the same.
-ghost use Rattle.std.specs.Prelude.{◌≡◌, ◌≤◌, length, take};
+ghost use Rattle.std.specs.Prelude.{◌≡◌};
 ghost use Rattle.header_octets.specs.Octets.{is_same};
 
 use byteorder::{ByteOrder, LittleEndian};
@@ -7,7 +7,8 @@ use byteorder::{ByteOrder, LittleEndian};
 /// How many octets are compared at once.
 const WORD: usize = 8;
 
-/// Whether two texts have the same octets, eight at a time. The library's comparison of slices is 2.4 instructions an octet.
+/// Whether two texts have the same octets: eight at a time, since the library's comparison of slices takes 2.4 instructions an
+/// octet, and by that the last seven at most.
 pub(crate) fn is_same(one: &[u8], other: &[u8]) -> bool
     ensures { result ≡ is_same one.now other.now }
 {
@@ -21,22 +22,5 @@ pub(crate) fn is_same(one: &[u8], other: &[u8]) -> bool
         }
         at += WORD;
     }
-    is_rest_same(one, other, at)
-}
-
-/// The same of texts of one length that are the same up to a place.
-fn is_rest_same(one: &[u8], other: &[u8], begin: usize) -> bool
-    requires lengths { length one.now ≡ length other.now }
-    requires there { begin ≤ length one.now }
-    requires begin { take begin one.now ≡ take begin other.now }
-    ensures { result ≡ is_same one.now other.now }
-{
-    let mut at = begin;
-    while at < one.len() {
-        if one[at] != other[at] {
-            return false;
-        }
-        at += 1;
-    }
-    true
+    one[at..] == other[at..]
 }

@@ -1,9 +1,9 @@
 //! The line of an entry.
 ghost use Rattle.std.specs.Prelude.{◌≡◌, ◌∷◌, ◌++◌, ◌<◌, OnOk, decimal, string_bytes};
-ghost use Rattle.endpoint_core.specs.Text.{hex_digit, hex_octet, place_text};
+ghost use Rattle.endpoint_core.specs.Text.{hex_octet, place_text};
 ghost use Rattle.table_lines.specs.Lines.{entry_line, mac_text, nine_digits, seen_text, age_text};
 
-use endpoint_core::put_place;
+use endpoint_core::{put_hex, put_place};
 use filter_db::{Entry, Place};
 use frame_view::{Mac, Vid};
 use std::alloc::AllocError;
@@ -59,7 +59,7 @@ fn put_mac(text: &mut String, mac: Mac) -> Result<(), AllocError>
     ensures { OnOk result (string_bytes text.new ≡ string_bytes text.old ++ mac_text mac) }
 {
     let [a, b, c, d, e, f] = mac.0;
-    put_octet(text, a)?;
+    put_hex(text, a)?;
     put_behind_colon(text, b)?;
     put_behind_colon(text, c)?;
     put_behind_colon(text, d)?;
@@ -71,28 +71,7 @@ fn put_behind_colon(text: &mut String, octet: u8) -> Result<(), AllocError>
     ensures { OnOk result (string_bytes text.new ≡ string_bytes text.old ++ 58 ∷ hex_octet octet) }
 {
     text.push(':')?;
-    put_octet(text, octet)
-}
-
-/// Puts an octet in two hexadecimal digits.
-fn put_octet(text: &mut String, octet: u8) -> Result<(), AllocError>
-    ensures { OnOk result (string_bytes text.new ≡ string_bytes text.old ++ hex_octet octet) }
-{
-    text.push(hex_digit(octet / 16))?;
-    text.push(hex_digit(octet % 16))
-}
-
-/// A hexadecimal digit.
-fn hex_digit(digit: u8) -> char
-    requires { digit < 16 }
-    ensures value { result ≡ hex_digit digit }
-    ensures ascii { result < 128 }
-{
-    char::from(if digit < 10 {
-        b'0' + digit
-    } else {
-        b'a' + (digit - 10)
-    })
+    put_hex(text, octet)
 }
 
 /// Puts when the station of an entry was last seen, and its age at a moment; or that the entry is fixed.

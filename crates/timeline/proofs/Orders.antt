@@ -124,7 +124,7 @@ sorted_is all es sorted stable =
 
 -- ---- what holds of all events holds of them in order
 
-all-put_in : (P : Event → Type 0) (e : Event) (es : List Event) → P e → AllByRecursion P es → AllByRecursion P (put_in e es)
+pub all-put_in : (P : Event → Type 0) (e : Event) (es : List Event) → P e → AllByRecursion P es → AllByRecursion P (put_in e es)
 all-put_in P e [] p h = (p, tt)
 all-put_in P e (f ∷ fs) p h = by_test (nat_lt f.moment e.moment) (all-put_in P e fs p h.1)
   where

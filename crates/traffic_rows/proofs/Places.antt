@@ -1,10 +1,11 @@
 -- Rows in their order, and the place of one.
-use Rattle.std.proofs.Common.{◌≡◌, ◌∙◌, ap, sym, refl, ℕ, zero, suc, ◌<◌, ◌≤◌, Bool, true, false, cond, nat_lt, List, [], ◌∷◌, ◌++◌, length, take, drop, get_or, slice_set, arith}
+use Rattle.std.proofs.Common.{◌≡◌, ◌∙◌, ap, sym, refl, ℕ, zero, suc, ◌<◌, ◌≤◌, Bool, true, false, cond, nat_lt, List, [], ◌∷◌, length, take, drop, get_or, slice_set, arith}
 use Rattle.std.proofs.lemmas.Bool.{cond-false, cond-true, lt-ltb, ltb-true, le-ltb}
+use Rattle.std.proofs.lemmas.List.{drop_all, get_or_read, length-set, length-take, take_all}
 use Rattle.std.specs.List.{insert}
 use Rattle.std.specs.List.Sorted.{IsNonDecreasingBy}
 use Rattle.traffic_rows.specs.Key.{rank}
-use Rattle.traffic_rows.specs.Rows.{AreRising, AreRisingFrom, rank_of, row_of, with_traffic}
+use Rattle.traffic_rows.specs.Rows.{AreRising, AreRisingFrom, IsPlaceOf, rank_of, row_of, with_traffic}
 use Rattle.traffic_rows.specs.Traffic.{traffic_with}
 use Rattle.traffic_rows.specs.declared.key.TunnelKey.{TunnelKey}
 use Rattle.traffic_rows.specs.declared.rows.TrafficRow.{TrafficRow}
@@ -13,21 +14,13 @@ use Rattle.traffic_rows.specs.declared.traffic.Traffic.{Traffic}
 -- ---- lists
 
 pub take_whole : {X : Type 0} (n : ℕ) (xs : List X) → length xs ≤ n → take n xs ≡ xs
-take_whole zero [] few = refl
-take_whole zero (x ∷ xs) few = absurd (omega (arith, few))
-take_whole (suc n) [] few = refl
-take_whole (suc n) (x ∷ xs) few = ap (λ ys. x ∷ ys) (take_whole n xs (omega (arith, few)))
+take_whole n xs few = take_all n xs few
 
 pub drop_whole : {X : Type 0} (n : ℕ) (xs : List X) → length xs ≤ n → drop n xs ≡ []
-drop_whole zero [] few = refl
-drop_whole zero (x ∷ xs) few = absurd (omega (arith, few))
-drop_whole (suc n) [] few = refl
-drop_whole (suc n) (x ∷ xs) few = drop_whole n xs (omega (arith, few))
+drop_whole n xs few = drop_all n xs few
 
 pub take_few : {X : Type 0} (n : ℕ) (xs : List X) → length (take n xs) ≤ n
-take_few zero xs = omega arith
-take_few (suc n) [] = omega arith
-take_few (suc n) (x ∷ xs) = omega (arith, take_few n xs)
+take_few n xs = omega (arith, length-take n xs)
 
 pub take_entered : {X : Type 0} (n : ℕ) (xs : List X) (at : ℕ) (x : X) → at ≤ n → at ≤ length xs → take (suc n) (insert xs at x) ≡ insert (take n xs) at x
 take_entered n xs zero x low inside = refl
@@ -40,30 +33,6 @@ drop_entered n xs zero x low inside = refl
 drop_entered zero xs (suc at) x low inside = absurd (omega (arith, low))
 drop_entered (suc n) [] (suc at) x low inside = absurd (omega (arith, inside))
 drop_entered (suc n) (y ∷ ys) (suc at) x low inside = drop_entered n ys at x (omega (arith, low)) (omega (arith, inside))
-
-pub take_behind : {X : Type 0} (n : ℕ) (xs : List X) (x : X) → length xs ≡ n → take n (insert xs n x) ≡ xs
-take_behind zero [] x long = refl
-take_behind zero (y ∷ ys) x long = absurd (omega (arith, long))
-take_behind (suc n) [] x long = absurd (omega (arith, long))
-take_behind (suc n) (y ∷ ys) x long = ap (λ zs. y ∷ zs) (take_behind n ys x (omega (arith, long)))
-
-pub drop_behind : {X : Type 0} (n : ℕ) (xs : List X) (x : X) → length xs ≡ n → drop n (insert xs n x) ≡ x ∷ []
-drop_behind zero [] x long = refl
-drop_behind zero (y ∷ ys) x long = absurd (omega (arith, long))
-drop_behind (suc n) [] x long = absurd (omega (arith, long))
-drop_behind (suc n) (y ∷ ys) x long = drop_behind n ys x (omega (arith, long))
-
-pub drop_last : {X : Type 0} (n : ℕ) (xs : List X) (x : X) → length xs ≡ n → drop n (xs ++ x ∷ []) ≡ x ∷ []
-drop_last zero [] x long = refl
-drop_last zero (y ∷ ys) x long = absurd (omega (arith, long))
-drop_last (suc n) [] x long = absurd (omega (arith, long))
-drop_last (suc n) (y ∷ ys) x long = drop_last n ys x (omega (arith, long))
-
-pub length_set : {X : Type 0} (xs : List X) (at : ℕ) (x : X) → length (slice_set xs at x) ≡ length xs
-length_set [] zero x = refl
-length_set [] (suc at) x = refl
-length_set (y ∷ ys) zero x = refl
-length_set (y ∷ ys) (suc at) x = ap suc (length_set ys at x)
 
 -- ---- order
 
@@ -131,8 +100,13 @@ module _ (key : TunnelKey) (traffic : Traffic) where
       cond-true _ _ _ (lt-ltb (rank_of row) (rank key) (before 0 row (omega arith)))
       ∙ ap (λ ys. row ∷ ys) (found rows at x v (omega (arith, inside)) (λ k d lt. before (suc k) d (omega (arith, lt))) is low high more)
 
--- what stands at a place is one thing, whatever would stand behind the end
-pub same_at : {X : Type 0} (xs : List X) (at : ℕ) (x y : X) → at < length xs → x ≡ get_or xs at x → y ≡ get_or xs at y → x ≡ y
-same_at [] at x y inside is_x is_y = absurd (omega (arith, inside))
-same_at (z ∷ zs) zero x y inside is_x is_y = is_x ∙ sym is_y
-same_at (z ∷ zs) (suc at) x y inside is_x is_y = same_at zs at x y (omega (arith, inside)) is_x is_y
+  -- more traffic of the row that has it
+  pub more_there : (most : ℕ) (rows : List TrafficRow) (at : ℕ) (x y : TrafficRow) (sum : Traffic) → length rows ≤ most → IsPlaceOf (rank key) rows at → at < length rows → ((d : TrafficRow) → rank_of (get_or rows at d) ≤ rank key)
+      → x ≡ get_or rows at x → y ≡ get_or rows at y → sum ≡ traffic_with y.traffic traffic
+      → (slice_set rows at (row_of x.key sum) ≡ take most (with_traffic key traffic rows)) × (drop most (with_traffic key traffic rows) ≡ [])
+  more_there most rows at x y sum few place there low is_x is_y more =
+      let v = row_of x.key sum in
+      let mine : v ≡ row_of x.key (traffic_with x.traffic traffic) = ap (row_of x.key) (more ∙ ap (λ (z : TrafficRow). traffic_with z.traffic traffic) (get_or_read rows at y there is_y x ∙ sym is_x)) in
+      let is = found rows at x v there place.before is_x (omega (arith, low x, ap rank_of is_x)) (omega (arith, place.behind at x (omega arith) there, ap rank_of is_x)) mine in
+      let long : length (slice_set rows at v) ≤ most = omega (arith, length-set rows at v, few) in
+      (sym (ap (take most) is ∙ take_whole most (slice_set rows at v) long), ap (drop most) is ∙ drop_whole most (slice_set rows at v) long)

@@ -1,5 +1,7 @@
 -- The first rows of a map, as traffic is added.
 use Rattle.std.proofs.Common.{◌≡◌, ◌<◌, ◌∙◌, ap, sym, refl, ℕ, zero, suc, Bool, true, false, cond, nat_lt, List, [], ◌∷◌, length, get_or, take, drop, arith}
+use Rattle.std.proofs.Math.Seq.{drop-nil, take-nil}
+use Rattle.std.proofs.lemmas.List.{drop_all, length-take, take-take}
 use Rattle.traffic_rows.specs.Key.{rank}
 use Rattle.traffic_rows.specs.Rows.{Rows, all_traffic, counted, counted_all, counted_in, no_rows, rank_of, row_of, shown, total, with_traffic}
 use Rattle.traffic_rows.specs.Traffic.{no_traffic, traffic_with}
@@ -7,34 +9,6 @@ use Rattle.traffic_rows.specs.declared.key.TunnelKey.{TunnelKey}
 use Rattle.traffic_rows.specs.declared.rows.TrafficRow.{TrafficRow}
 use Rattle.traffic_rows.specs.declared.traffic.Traffic.{Traffic}
 use Rattle.traffic_rows.proofs.Sums.{none_none, with_among, with_behind, with_grouped, with_nothing, with_nothing_more, with_turned}
-
--- ---- lists
-
-abbrev nobody : List TrafficRow
-nobody = []
-
-take_none : (n : ℕ) → take n nobody ≡ nobody
-take_none zero = refl
-take_none (suc n) = refl
-
-drop_none : (n : ℕ) → drop n nobody ≡ nobody
-drop_none zero = refl
-drop_none (suc n) = refl
-
-take_less : {X : Type 0} (n : ℕ) (xs : List X) → take n (take (suc n) xs) ≡ take n xs
-take_less zero xs = refl
-take_less (suc n) [] = refl
-take_less (suc n) (x ∷ xs) = ap (λ ys. x ∷ ys) (take_less n xs)
-
-take_same : {X : Type 0} (n : ℕ) (xs : List X) → take n (take n xs) ≡ take n xs
-take_same zero xs = refl
-take_same (suc n) [] = refl
-take_same (suc n) (x ∷ xs) = ap (λ ys. x ∷ ys) (take_same n xs)
-
-drop_taken : {X : Type 0} (n : ℕ) (xs : List X) → drop n (take n xs) ≡ []
-drop_taken zero xs = refl
-drop_taken (suc n) [] = refl
-drop_taken (suc n) (x ∷ xs) = drop_taken n xs
 
 -- ---- what rows come to
 
@@ -72,13 +46,13 @@ rows_more (suc n) key traffic (row ∷ rows) = by (nat_lt (rank_of row) (rank ke
         → take (suc n) (cond p (row ∷ with_traffic key traffic (take n rows)) (cond q (row_of key traffic ∷ row ∷ take n rows) (row_of row.key (traffic_with row.traffic traffic) ∷ take n rows)))
         ≡ take (suc n) (cond p (row ∷ with_traffic key traffic rows) (cond q (row_of key traffic ∷ row ∷ rows) (row_of row.key (traffic_with row.traffic traffic) ∷ rows)))
     by true q more = ap (λ ys. row ∷ ys) more
-    by false true more = ap (λ ys. row_of key traffic ∷ ys) (take_less n (row ∷ rows))
-    by false false more = ap (λ ys. row_of row.key (traffic_with row.traffic traffic) ∷ ys) (take_same n rows)
+    by false true more = ap (λ ys. row_of key traffic ∷ ys) (take-take n (suc n) (row ∷ rows) (omega arith))
+    by false false more = ap (λ ys. row_of row.key (traffic_with row.traffic traffic) ∷ ys) (take-take n n rows (omega arith))
 
 others_more : (n : ℕ) (key : TunnelKey) (traffic : Traffic) (rows : List TrafficRow)
     → traffic_with (total (drop n rows)) (total (drop n (with_traffic key traffic (take n rows)))) ≡ total (drop n (with_traffic key traffic rows))
 others_more zero key traffic rows = sym (total_more key traffic rows)
-others_more (suc n) key traffic [] = rw (drop_none n) none_none
+others_more (suc n) key traffic [] = ap (λ rows. traffic_with no_traffic (total rows)) (drop-nil n) ∙ none_none ∙ ap total (sym (drop-nil n))
 others_more (suc n) key traffic (row ∷ rows) = by (nat_lt (rank_of row) (rank key)) (nat_lt (rank key) (rank_of row)) (others_more n key traffic rows)
   where
     by : (p q : Bool) → traffic_with (total (drop n rows)) (total (drop n (with_traffic key traffic (take n rows)))) ≡ total (drop n (with_traffic key traffic rows))
@@ -86,13 +60,13 @@ others_more (suc n) key traffic (row ∷ rows) = by (nat_lt (rank_of row) (rank 
         ≡ total (drop (suc n) (cond p (row ∷ with_traffic key traffic rows) (cond q (row_of key traffic ∷ row ∷ rows) (row_of row.key (traffic_with row.traffic traffic) ∷ rows))))
     by true q more = more
     by false true more = sym (total_apart n (row ∷ rows))
-    by false false more = ap (λ ys. traffic_with (total (drop n rows)) (total ys)) (drop_taken n rows) ∙ total_none (drop n rows)
+    by false false more = ap (λ ys. traffic_with (total (drop n rows)) (total ys)) (drop_all n (take n rows) (omega (arith, length-take n rows))) ∙ total_none (drop n rows)
 
 pub shown_more : (n : ℕ) (rows : List TrafficRow) (key : TunnelKey) (traffic : Traffic) → counted_in n (shown n rows) key traffic ≡ shown n (with_traffic key traffic rows)
 shown_more n rows key traffic = λ i. record { rows = rows_more n key traffic rows i; others = others_more n key traffic rows i }
 
 pub none_shown : (n : ℕ) → no_rows ≡ shown n []
-none_shown n = λ i. record { rows = sym (take_none n) i; others = ap total (sym (drop_none n)) i }
+none_shown n = λ i. record { rows = sym (take-nil n) i; others = ap total (sym (drop-nil n)) i }
 
 pub shown_all : (rows more : List TrafficRow) → counted_all (shown 4096 rows) more ≡ shown 4096 (all_traffic rows more)
 shown_all rows [] = refl

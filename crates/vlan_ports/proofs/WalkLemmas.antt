@@ -7,7 +7,7 @@ use Rattle.std.specs.List.{filter, range_with_len}
 use Rattle.vlan_ports.specs.Bits.{is_member_in}
 use Rattle.vlan_ports.specs.Walk.{IsAt, members_above}
 use Rattle.vlan_ports.specs.declared.walk.Position.{Position}
-use Rattle.vlan_ports.proofs.WordLemmas.{unset, is_set}
+use Rattle.vlan_ports.proofs.WordLemmas.{told_by}
 
 -- ---- the lowest bit that is left
 
@@ -26,7 +26,7 @@ module _ (words : List ℕ) (vid : ℕ) (at : Position) (is : IsAt words vid at)
       let t : ℕ = trailing_zeros w64 at.rest in
       let word : ℕ = slice_index_or words (at.column * 8192 + vid) 0 in
       let back : at.column * 64 + t - at.column * 64 ≡ t = omega arith in
-      is_set words vid at.column (at.column * 64 + t) word (at.column * 8192 + vid) refl refl (omega arith) (omega (arith, lowest.0))
+      told_by words vid at.column (at.column * 64 + t) word (at.column * 8192 + vid) 1 refl refl (omega arith) (omega (arith, lowest.0))
       (ap (bit_at word) back ∙ sym (is.left t lowest.0 lowest-above) ∙ lowest.1)
 
   pub lowest-least : (p : ℕ) → at.after < p → p < at.column * 64 + trailing_zeros w64 at.rest → is_member_in words vid p ≡ false
@@ -36,7 +36,7 @@ module _ (words : List ℕ) (vid : ℕ) (at : Position) (is : IsAt words vid at)
         let b : ℕ = p - at.column * 64 in
         let word : ℕ = slice_index_or words (at.column * 8192 + vid) 0 in
         let low : b < 64 = omega (arith, lowest.0) in
-        unset words vid at.column p word (at.column * 8192 + vid) refl refl le (omega (arith, lowest.0))
+        told_by words vid at.column p word (at.column * 8192 + vid) 0 refl refl le (omega (arith, lowest.0))
         (sym (is.left b low (omega arith)) ∙ lowest.2 b (omega arith))
   ]
 

@@ -213,20 +213,13 @@ stands-zeros n v = ap (λ (w : ℕ). eqb (bit_at w 0) 1) (get_or-zeros n v) ∙ 
 
 -- ---- the members of 64 ports, in their word
 
--- a port that is no member, by the word that is read for its 64
-pub unset : (words : List ℕ) (vid column p word place : ℕ) → word ≡ get_or words place 0 → place ≡ column * 8192 + vid → column * 64 ≤ p → p < column * 64 + 64
-    → bit_at word (p - column * 64) ≡ 0 → is_member_in words vid p ≡ false
-unset words vid column p word place read at low high none =
+-- whether a port is a member, by its bit of the word that is read for its 64
+pub told_by : (words : List ℕ) (vid column p word place b : ℕ) → word ≡ get_or words place 0 → place ≡ column * 8192 + vid → column * 64 ≤ p → p < column * 64 + 64
+    → bit_at word (p - column * 64) ≡ b → is_member_in words vid p ≡ eqb b 1
+told_by words vid column p word place b read at low high is =
     let bit : p % 64 ≡ p - column * 64 = omega arith in
     let here : place_of vid p ≡ place = omega arith in
-    (λ i. has_bit words (here i) (bit i)) ∙ ap (λ (w : ℕ). eqb (bit_at w (p - column * 64)) 1) (sym read) ∙ ap (λ (b : ℕ). eqb b 1) none
-
-pub is_set : (words : List ℕ) (vid column p word place : ℕ) → word ≡ get_or words place 0 → place ≡ column * 8192 + vid → column * 64 ≤ p → p < column * 64 + 64
-    → bit_at word (p - column * 64) ≡ 1 → is_member_in words vid p ≡ true
-is_set words vid column p word place read at low high one =
-    let bit : p % 64 ≡ p - column * 64 = omega arith in
-    let here : place_of vid p ≡ place = omega arith in
-    (λ i. has_bit words (here i) (bit i)) ∙ ap (λ (w : ℕ). eqb (bit_at w (p - column * 64)) 1) (sym read) ∙ ap (λ (b : ℕ). eqb b 1) one
+    (λ i. has_bit words (here i) (bit i)) ∙ ap (λ (w : ℕ). eqb (bit_at w (p - column * 64)) 1) (sym read) ∙ ap (λ (b : ℕ). eqb b 1) is
 
 -- ---- one of two
 

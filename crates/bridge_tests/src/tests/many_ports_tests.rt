@@ -1,6 +1,7 @@
 //! 255 ports, of which eight are members of segment 10: on both sides of each 64, and the last.
 use crate::tests::calls::VXLAN_2;
 use crate::tests::checks::{check, check_at};
+use crate::tests::ports::up_port;
 use filter_db::Place;
 use flood_lists::FloodList;
 use frame_view::Vid;
@@ -8,7 +9,7 @@ use std::alloc::Global;
 use std::process::Abort;
 use std::test::Fail;
 use tunnel_learning::{Bridge, Outlets, send_toward};
-use vlan_ports::{Accept, Egress, MemberRule, PortList, PortRule, PortSet};
+use vlan_ports::{Egress, MemberRule, PortList, PortSet};
 
 /// A member port, and how frames leave there.
 type Member = (u8, Egress);
@@ -31,11 +32,7 @@ fn vid(number: u16) -> Result<Vid, Fail> {
 /// 255 ports that are up, and segment 10.
 fn all_ports(alloc: Global) -> Result<PortSet, Fail> {
     let vid = vid(10)?;
-    let port = PortRule {
-        pvid: vid,
-        accept: Accept::All,
-        up: true,
-    };
+    let port = up_port(vid);
     let members = MemberRule {
         vid,
         untagged: PortList::from_slice(&[1, 17, 63, 65, 128]),

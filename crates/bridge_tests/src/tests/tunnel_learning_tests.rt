@@ -1,6 +1,7 @@
 //! Frames among three ports and two remotes, over tables that are lists.
 use crate::tests::calls::{PORT_1, PORT_2, PORT_3, VXLAN_2};
 use crate::tests::checks::{check, check_at};
+use crate::tests::ports::up_port;
 use filter_db::{ListTables, Place, TableRule, Tables};
 use flood_lists::{FloodList, Own};
 use frame_view::{BridgeFrame, EtherView, Mac, Reason, Vid};
@@ -9,7 +10,7 @@ use std::alloc::Global;
 use std::process::Abort;
 use std::test::Fail;
 use tunnel_learning::{Bridge, Outlets, bridge_step_into};
-use vlan_ports::{Accept, MemberRule, PortList, PortRule, PortSet};
+use vlan_ports::{MemberRule, PortList, PortSet};
 
 const VXLAN_3: Place = Place::Remote(Tunnel::Vxlan, Addr::V4([192, 0, 2, 3]));
 
@@ -25,11 +26,7 @@ fn vid() -> Result<Vid, Fail> {
 /// Three ports that are up and untagged members of segment 10.
 fn three_ports(alloc: Global) -> Result<PortSet, Fail> {
     let vid = vid()?;
-    let port = PortRule {
-        pvid: vid,
-        accept: Accept::All,
-        up: true,
-    };
+    let port = up_port(vid);
     let members = MemberRule {
         vid,
         untagged: PortList::from_slice(&[1, 2, 3]),

@@ -5,12 +5,13 @@ use Rattle.filter_db.specs.declared.tables.Learned.{Learned}
 use Rattle.filter_db.specs.declared.tables.Learned.TheVariants as learned
 use Rattle.filter_db.specs.Table.{nanoseconds, learned_as, is_full, has_fixed}
 use Rattle.filter_db.specs.Segment.{Segment, aged_all, segment_at, adjusted, learn_in, fix_in, unfix_in}
+use Rattle.shared_tables.specs.Bucket.{bucket_of}
 use Rattle.shared_tables.specs.Pool.{Held, entry_at, is_fixed_in}
-use Rattle.shared_tables.specs.Shared.{Shared, rule_at, span_of, IsOrderly, IsUnique, Sweeps, Admits, Relearns, Refreshes, Drops}
+use Rattle.shared_tables.specs.Shared.{Shared, Lacks, bucket_count, rule_at, span_of, IsOrderly, IsUnique, Sweeps, Admits, Relearns, Refreshes, Drops}
 use Rattle.shared_tables.specs.Segments.{segments_of}
-use Rattle.shared_tables.specs.Work.{VisitsFew, TellsAtMost}
+use Rattle.shared_tables.specs.Work.{ComparesByBits, VisitsFew, TellsAtMost}
 use Rattle.shared_tables.proofs.OnCalls.SegmentsLemmas.{HasRule}
-use Rattle.shared_tables.proofs.OnCalls.CallLemmas.{Begins, begins_plain, Finds, Misses, own, rule_there, span_is, own_is, learn_new, learn_full, learn_again, fix_new, fix_full, fix_again, unfix_none, unfix_fixed, unfix_learned, changes}
+use Rattle.shared_tables.proofs.OnCalls.CallLemmas.{Begins, begins_plain, Finds, Misses, misses, own, rule_there, span_is, own_is, learn_new, learn_full, learn_again, fix_new, fix_full, fix_again, unfix_none, unfix_fixed, unfix_learned, changes}
 use Rattle.shared_tables.proofs.OnCalls.WorkLemmas.{Visits, visits_of, swept_visits, admit_visits, refresh_visits, relearn_visits, seen_now, learned_now, learn_tells, fix_tells, none_tells}
 use Rattle.shared_tables.proofs.OnCalls.Steps.{IsStep, Leaves, leaves, LeavesSearched, leaves_searched, still, sweep_step, admit_step, refresh_step, relearn_step, release_step, drop_step}
 
@@ -68,7 +69,7 @@ module _ (old f new : Shared) (now v : ℕ) (le : old.moment ≤ now) (has : IsS
       }
 
   -- ---- no slot holds it
-  module _ (answer result : Bool) (is : result ≡ answer) (k : Misses old f now v mac) where
+  module _ (answer : Bool) (k : Misses old f now v mac) where
     abbrev b : Begins old f now
     b = k.search.begun
 
@@ -76,9 +77,8 @@ module _ (old f new : Shared) (now v : ℕ) (le : old.moment ≤ now) (has : IsS
     abbrev AdmitsOf : Option ℕ → Bool → Type 0
     AdmitsOf last answer = Admits f new v (span_of (rule_at f.rules v)) (record { vid = v; mac = mac; place = place; last = last }) answer
 
-    pub learns_new : AdmitsOf (Some now) result → Learns old new now v mac place (cond answer learned.New learned.Full)
-    learns_new admitted =
-        let h = subst (AdmitsOf (Some now)) is admitted in
+    learns_new : AdmitsOf (Some now) answer → Learns old new now v mac place (cond answer learned.New learned.Full)
+    learns_new h =
         let new_or_full = given answer h in
         record {
           answers = new_or_full.0 ∙ sym (ap (λ (s : Segment). learned_as s.limit place mac s.entries) (same b));
@@ -93,9 +93,8 @@ module _ (old f new : Shared) (now v : ℕ) (le : old.moment ≤ now) (has : IsS
         given true h = learn_new old f now v b le has mac k.lacks place new h
         given false h = learn_full old f now v b le has mac k.lacks place new h
 
-    pub fixes_new : AdmitsOf None result → Fixes old new now v mac place (not answer)
-    fixes_new admitted =
-        let h = subst (AdmitsOf None) is admitted in
+    fixes_new : AdmitsOf None answer → Fixes old new now v mac place (not answer)
+    fixes_new h =
         let new_or_full = given answer h in
         record {
           answers = ap (λ (s : Segment). is_full s.limit mac s.entries) (same b) ∙ new_or_full.0;
@@ -109,6 +108,21 @@ module _ (old f new : Shared) (now v : ℕ) (le : old.moment ≤ now) (has : IsS
             → (is_full (own old f now v b le has).limit mac (own old f now v b le has).entries ≡ not answer) × (segments_of new ≡ adjusted v (fix_in place mac) (aged_all now (segments_of old)))
         given true h = fix_new old f now v b le has mac k.lacks place new h
         given false h = fix_full old f now v b le has mac k.lacks place new h
+
+-- an address was looked for in vain, and then an entry came, or was refused
+module _ (old b new : Shared) (now v : ℕ) (le : old.moment ≤ now) (has : IsSome (segments_of old v)) (mac : List ℕ) (place : Place) (came : Bool) (began : b ≡ record old { calls = old.calls + 1; moment = now }) (orderly : IsOrderly b) where
+  abbrev looked : Shared
+  looked = record b { compared = new.compared }
+
+  module _ (more : b.compared ≤ new.compared) (few : new.compared ≤ b.compared + bucket_count (bucket_of v mac) b.entries) (bits : ComparesByBits b looked) (lacks : Lacks b.entries v mac) where
+    missed : Misses old looked now v mac
+    missed = misses old b looked now v mac new.compared began orderly refl more few bits lacks
+
+    pub learns_missed : Admits looked new v (span_of (rule_at b.rules v)) (record { vid = v; mac = mac; place = place; last = Some now }) came → Learns old new now v mac place (cond came learned.New learned.Full)
+    learns_missed h = learns_new old looked new now v le has mac place came missed h
+
+    pub fixes_missed : Admits looked new v (span_of (rule_at b.rules v)) (record { vid = v; mac = mac; place = place; last = None }) came → Fixes old new now v mac place (not came)
+    fixes_missed h = fixes_new old looked new now v le has mac place came missed h
 
 -- ---- a fixed address goes
 

@@ -7,7 +7,7 @@ use Rattle.shared_tables.specs.declared.admission.Newcomer.{Newcomer}
 use Rattle.shared_tables.specs.declared.look_up.Beside.{Beside}
 use Rattle.shared_tables.specs.declared.trees.Target.TheVariants as target
 use Rattle.shared_tables.specs.Bucket.{key_of, tree_of}
-use Rattle.shared_tables.specs.Pool.{Pool, Held, entry_at, alone, free_count}
+use Rattle.shared_tables.specs.Pool.{Pool, Held, entry_at, alone, free_count, taken}
 use Rattle.shared_tables.specs.LinkSteps.{HoldsAny, pushed_back, ends_with}
 use Rattle.shared_tables.specs.Shared.{rule_at, kept_count, HasRoom, Enters, line_key}
 use Rattle.shared_tables.specs.SlotsOfSegments.{share_at, share_with, share_written, shares_with, line_at, last_in, rule_of, CountsMore, HasEnds}
@@ -83,8 +83,14 @@ module _ (pool : Pool) (w : Trees) (shares : List (Option Share)) (moment : ℕ)
         (graft_trees es w h.trees e s lt free at.leaf b.0 at.bit b.1.0 b.1.1 m.fits)
 
     module _ (pool' : Pool) (w' : Trees) (shares' : List (Option Share)) (fixed : Bool) (is_fixed : fixed ≡ is_none n.last)
-        (entries_is : pool'.entries ≡ set es s (Some e)) (lines_is : pool'.lines ≡ pushed_back (set pool.lines s alone) (last_in (share_at shares n.vid) fixed) s)
+        {took : Pool} (took_is : took ≡ taken pool s e) (joined : pool' ≡ record took { lines = pushed_back took.lines (last_in (share_at shares n.vid) fixed) s })
         (shares_is : shares' ≡ shares_with shares n.vid fixed s) (a : Attaches w w' n n.beside s) where
+      entries_is : pool'.entries ≡ set es s (Some e)
+      entries_is = ap (λ (p : Pool). p.entries) joined ∙ ap (λ (p : Pool). p.entries) took_is
+
+      lines_is : pool'.lines ≡ pushed_back (set pool.lines s alone) (last_in (share_at shares n.vid) fixed) s
+      lines_is = ap (λ (p : Pool). p.lines) joined ∙ ap (λ (p : Pool). pushed_back p.lines (last_in (share_at shares n.vid) fixed) s) took_is
+
       lines_are : pool'.lines ≡ pushed_back (set pool.lines s alone) (line_at own.share (is_none n.last)).last s
       lines_are = lines_is ∙ ap (λ (o : Option Share). pushed_back (set pool.lines s alone) (last_in o fixed) s) own.here ∙ ap (λ f. pushed_back (set pool.lines s alone) (line_at own.share f).last s) is_fixed
 
@@ -97,12 +103,12 @@ module _ (pool : Pool) (w : Trees) (shares : List (Option Share)) (moment : ℕ)
         trees = subst (λ xs. AreTreesOf xs w') (sym entries_is) (attached w' n.beside m.beside a);
       }
 
-      pub enters : (calls compared : ℕ) → pool'.visited ≡ pool.visited → Enters (seen pool shares moment calls compared) (seen pool' shares' moment calls compared) e
-      enters calls compared visited = record {
+      pub enters : (calls compared : ℕ) → Enters (seen pool shares moment calls compared) (seen pool' shares' moment calls compared) e
+      enters calls compared = record {
         slot = s;
         in_pool = lt;
         free = free;
         same = same_shared moment calls entries_is
             (ap (map (option_map rule_of)) shares_are ∙ rules_stay shares n.vid own.share (share_with (is_none n.last) s own.share) own.here (rule_of-with_line own.share (is_none n.last) (ends_with (line_at own.share (is_none n.last)) s) (own.share.count + 1)))
-            refl visited;
+            refl (ap (λ (p : Pool). p.visited) joined ∙ ap (λ (p : Pool). p.visited) took_is);
       }

@@ -87,7 +87,12 @@ stands_is : (o : Option Held) (stands place : Place) (same : Bool) → IsSome o 
 stands_is None stands place same some is e = let bad : false ≡ true = some in cc
 stands_is (Some h) stands place same some is e = sym (e ∙ ap (λ p. same_place p place) is)
 
-module _ (old now : Pool) (trees : Trees) (was shares : List (Option Share)) (moment v : ℕ) (place : Place) (slot steps count : ℕ) (w : Passes old now trees was shares moment v place (Some slot) steps count) where
+-- the same cursor
+pub pass_to : {old now : Pool} {trees : Trees} {was shares : List (Option Share)} {moment v : ℕ} {place : Place} {cursor other : Option ℕ} {steps count : ℕ} → cursor ≡ other → Passes old now trees was shares moment v place cursor steps count
+    → Passes old now trees was shares moment v place other steps count
+pass_to {old} {now} {trees} {was} {shares} {moment} {v} {place} {cursor} {other} {steps} {count} e w = subst (λ (o : Option ℕ). Passes old now trees was shares moment v place o steps count) e w
+
+module _ {old now : Pool} {trees : Trees} {was shares : List (Option Share)} {moment v : ℕ} {place : Place} {slot steps count : ℕ} (w : Passes old now trees was shares moment v place (Some slot) steps count) where
   abbrev a : AtSlot old now trees was shares moment v place slot steps count
   a = at_slot old now trees was shares moment v place slot steps count w
 
@@ -184,8 +189,7 @@ module _ (old now : Pool) (trees : Trees) (was shares : List (Option Share)) (mo
 pub pass_at : (old : Pool) (was : List (Option Share)) (v : ℕ) (place : Place) (i j : Inside) (cursor next : Option ℕ) (steps count : ℕ) → cursor ≡ next → i ≡ j → Passes old j.slots j.trees was j.shares.items j.moment v place next steps count
     → Passes old i.slots i.trees was i.shares.items i.moment v place cursor steps count
 pass_at old was v place i j cursor next steps count q e w =
-    subst (λ (o : Option ℕ). Passes old i.slots i.trees was i.shares.items i.moment v place o steps count) (sym q)
-    (subst (λ (x : Inside). Passes old x.slots x.trees was x.shares.items x.moment v place next steps count) (sym e) w)
+    pass_to (sym q) (subst (λ (x : Inside). Passes old x.slots x.trees was x.shares.items x.moment v place next steps count) (sym e) w)
 
 -- nothing is left of the queue
 pub pass_none : (old now : Pool) (trees : Trees) (was shares : List (Option Share)) (moment v : ℕ) (place : Place) (steps count : ℕ) → steps < count → Passes old now trees was shares moment v place None steps count → Passes old now trees was shares moment v place None (steps + 1) count

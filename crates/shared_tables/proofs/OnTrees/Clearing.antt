@@ -8,16 +8,15 @@ use Rattle.shared_tables.specs.Pool.{Held, entry_at}
 use Rattle.shared_tables.specs.Line.{is_on}
 use Rattle.shared_tables.specs.Shared.{tree_key}
 use Rattle.shared_tables.specs.Tree.{Tree, Leaf, leaves, IsTree, descend}
-use Rattle.shared_tables.specs.TreeColumns.{Trees, target_at, number_at, child_of, place_by, cleared}
-use Rattle.shared_tables.specs.TreesOfSlots.{leaves_of, IsRooted, LeadsTo, IsTreeOf, Belongs, HasChildren, StandsAt, spare_of, Keeps, AreTreesOf}
+use Rattle.shared_tables.specs.TreeColumns.{Trees, target_at, number_at, child_of, cleared}
+use Rattle.shared_tables.specs.TreesOfSlots.{IsRooted, LeadsTo, IsTreeOf, Belongs, HasChildren, StandsAt, spare_of, Keeps, AreTreesOf}
 use Rattle.shared_tables.proofs.OnEntries.Linked.{by_bool, equal, nat_eq_refl}
-use Rattle.shared_tables.proofs.OnEntries.Threaded.{in_entries}
-use Rattle.shared_tables.proofs.OnTrees.Buckets.{tree_small, tree_excl}
-use Rattle.shared_tables.proofs.OnTrees.Places.{place_root, leaf_place, leaf_alone}
+use Rattle.shared_tables.proofs.OnTrees.Buckets.{tree_excl}
+use Rattle.shared_tables.proofs.OnTrees.Places.{OwnTree, own_tree, place_root, leaf_place, leaf_alone}
 use Rattle.shared_tables.proofs.OnTrees.TreeLemmas.{same_tree}
 use Rattle.shared_tables.proofs.OnTrees.Grafting.{one_more, weight_is}
 use Rattle.shared_tables.proofs.OnTrees.Planting.{root_child, root_frame}
-use Rattle.shared_tables.proofs.OnTrees.TreesOfLemmas.{apart, differ, nothing_word, written_same, written_other, entry_same, entry_other, keys_gone, held_beside, leaf_there, HasTree, tree_beside, some_tree}
+use Rattle.shared_tables.proofs.OnTrees.TreesOfLemmas.{apart, differ, nothing_word, written_same, written_other, entry_same, entry_other, keys_gone, held_beside, leaf_there, tree_beside}
 
 -- the only leaf of a tree goes
 module _ (es : List (Option Held)) (w : Trees) (h : AreTreesOf es w) (e : Held) (s : ℕ) (here : entry_at es s ≡ Some e) (root : number_at w.leaves s < 1048576) where
@@ -30,27 +29,11 @@ module _ (es : List (Option Held)) (w : Trees) (h : AreTreesOf es w) (e : Held) 
   abbrev at : ℕ → Target
   at = target_at w.words
 
-  c_lt : c < 1048576
-  c_lt = tree_small e.vid e.mac
-
-  keyed : tree_key c (entry_at es s) ≡ true
-  keyed = ap (tree_key c) here ∙ nat_eq_refl c
-
-  pub own_lt : s < length es
-  own_lt = in_entries (tree_key c) refl es s keyed
-
-  pub s_lt : s < length w.leaves
-  s_lt = omega (arith, own_lt, h.slots, h.sizes.leaves)
-
-  old : IsTreeOf es w.words c
-  old = h.numbered c c_lt
-
-  some_root : (t : Option Tree) → is_on s (leaves_of t) ≡ true → IsRooted at (at c) t → at (place_by c n) ≡ target.Leaf s
-  some_root None on k = let bad : false ≡ true = on in cc
-  some_root (Some t) on k = leaf_place es w h s c c t (λ _. refl) k on
+  own : OwnTree es w c s
+  own = own_tree es w h e s here
 
   at_root : at c ≡ target.Leaf s
-  at_root = ap at (sym (place_root c n root)) ∙ some_root old.tree (old.members s ∙ keyed) old.rooted
+  at_root = ap at (sym (place_root c n root)) ∙ leaf_place es w h s c c own.whole.tree (λ _. refl) own.whole.rooted (own.whole.members s ∙ own.keyed)
 
   pub place_lt : n < length w.words
   place_lt = omega (arith, root, h.sizes.words)
@@ -65,19 +48,16 @@ module _ (es : List (Option Held)) (w : Trees) (h : AreTreesOf es w) (e : Held) 
   at' = target_at w'.words
 
   at_none : at' c ≡ target.Nothing
-  at_none = written_same w.words c 4294967295 (omega (arith, c_lt, h.sizes.words)) ∙ nothing_word
+  at_none = written_same w.words c 4294967295 (omega (arith, own.in_range, h.sizes.words)) ∙ nothing_word
 
   at_else : (p : ℕ) → p ≢ c → at' p ≡ at p
   at_else p ne = written_other w.words c 4294967295 p ne
 
   child_same : (m z : ℕ) → at' (child_of m z) ≡ at (child_of m z)
-  child_same m z = root_child w.words c 4294967295 c_lt m z
+  child_same m z = root_child w.words c 4294967295 own.in_range m z
 
-  mine : HasTree es w.words c
-  mine = some_tree es w.words c (leaf_there (at c) s at_root) old
-
-  tree_is : mine.tree ≡ Leaf s
-  tree_is = same_tree at (at c) mine.tree (Leaf s) mine.rooted at_root
+  tree_is : own.whole.tree ≡ Leaf s
+  tree_is = same_tree at (at c) own.whole.tree (Leaf s) own.whole.rooted at_root
 
   tree_mine : IsTreeOf es' w'.words c
   tree_mine = record {
@@ -85,19 +65,19 @@ module _ (es : List (Option Held)) (w : Trees) (h : AreTreesOf es w) (e : Held) 
     rooted = at_none;
     parted = tt;
     members = λ i. by_bool (nat_eq i s)
-        (λ yes. sym (ap (λ k. tree_key c (entry_at es' k)) (equal i s yes) ∙ ap (tree_key c) (entry_same es s None own_lt)))
-        (λ no. sym (ap (tree_key c) (entry_other es s i None (apart i s no)) ∙ sym (mine.members i) ∙ ap (λ t. is_on i (leaves t)) tree_is ∙ ap (λ a. a || false) no));
-    size = omega (arith, ap (λ t. length (leaves t)) tree_is, mine.size, one_more es c s None own_lt, weight_is c (entry_at es s) true keyed, weight_is c None false refl);
+        (λ yes. sym (ap (λ k. tree_key c (entry_at es' k)) (equal i s yes) ∙ ap (tree_key c) (entry_same es s None own.in_pool)))
+        (λ no. sym (ap (tree_key c) (entry_other es s i None (apart i s no)) ∙ sym (own.whole.members i) ∙ ap (λ t. is_on i (leaves t)) tree_is ∙ ap (λ a. a || false) no));
+    size = omega (arith, ap (λ t. length (leaves t)) tree_is, own.whole.size, one_more es c s None own.in_pool, weight_is c (entry_at es s) true own.keyed, weight_is c None false refl);
   }
 
   tree_other : (c' : ℕ) → c' < 1048576 → nat_eq c' c ≡ false → IsTreeOf es' w'.words c'
   tree_other c' clt ne =
       let k = h.numbered c' clt in
-      tree_beside es w.words w'.words c' s None own_lt (tree_excl c c' ne (entry_at es s) keyed) refl k
-      (subst (λ t. IsRooted at' t k.tree) (sym (at_else c' (apart c' c ne))) (root_frame w.words c 4294967295 c_lt (at c') k.tree k.rooted))
+      tree_beside es w.words w'.words c' s None own.in_pool (tree_excl c c' ne (entry_at es s) own.keyed) refl k
+      (subst (λ t. IsRooted at' t k.tree) (sym (at_else c' (apart c' c ne))) (root_frame w.words c 4294967295 own.in_range (at c') k.tree k.rooted))
 
   not_own : (p : ℕ) → p ≢ c → at p ≢ target.Leaf s
-  not_own p ne q = ne (sym (leaf_alone es w h c p s keyed q) ∙ place_root c n root)
+  not_own p ne q = ne (sym (leaf_alone es w h c p s own.keyed q) ∙ place_root c n root)
 
   forks_stay : (m : ℕ) → HasChildren w.words m → HasChildren w'.words m
   forks_stay m k = (λ q. k.0 (sym (child_same m 0) ∙ q), λ q. k.1 (sym (child_same m 1) ∙ q))
@@ -115,7 +95,7 @@ module _ (es : List (Option Held)) (w : Trees) (h : AreTreesOf es w) (e : Held) 
       (λ no. subst (StandsAt es' w' p) (sym (at_else p (apart p c no))) (stays p (apart p c no) (at p) refl (h.stands p)))
 
   spare : Keeps w h.keeper n (1048576 + c)
-  spare = subst (λ t. Keeps w h.keeper (spare_of w t) (1048576 + c)) at_root (h.spares c c_lt (leaf_there (at c) s at_root))
+  spare = subst (λ t. Keeps w h.keeper (spare_of w t) (1048576 + c)) at_root (h.spares c own.in_range (leaf_there (at c) s at_root))
 
   -- the slot keeps the tree's fork
   keeper' : ℕ → ℕ
@@ -167,7 +147,7 @@ module _ (es : List (Option Held)) (w : Trees) (h : AreTreesOf es w) (e : Held) 
       few = h.sizes.few;
     };
     slots = omega (arith, h.slots, length-set es s None);
-    keys = keys_gone es s own_lt h.keys;
+    keys = keys_gone es s own.in_pool h.keys;
     numbered = λ c' clt. by_bool (nat_eq c' c) (λ yes. subst (IsTreeOf es' w'.words) (sym (equal c' c yes)) tree_mine) (λ no. tree_other c' clt no);
     stands = standing_at;
     keeper = keeper';
@@ -184,7 +164,7 @@ module _ (es : List (Option Held)) (w : Trees) (h : AreTreesOf es w) (e : Held) 
       let is : t ≡ Leaf s = same_tree at (at c') t (Leaf s) k (ap at (equal c' c yes) ∙ at_root) in
       let same : s ≡ leaf = subst (λ u. descend key u ≡ leaf) is leads in
       absurd (ne (ap Some (sym same))))
-      (λ no. subst (λ x. IsTree at' x t) (sym (at_else c' (apart c' c no))) (root_frame w.words c 4294967295 c_lt (at c') (Some t) k))
+      (λ no. subst (λ x. IsTree at' x t) (sym (at_else c' (apart c' c no))) (root_frame w.words c 4294967295 own.in_range (at c') (Some t) k))
 
   pub clear_belongs : (c' key : ℕ) (leaf : Option ℕ) → leaf ≢ Some s → Belongs w.words c' key leaf → Belongs w'.words c' key leaf
   clear_belongs c' key leaf ne b = record { tree = b.tree; rooted = rooted_leads c' key b.tree leaf ne b.leads b.rooted; leads = b.leads }

@@ -4,7 +4,8 @@ use Rattle.std.proofs.lemmas.List.{take-set-le, drop-set-lt, drop-set-add, lengt
 use Rattle.std.proofs.lemmas.List.{get_or_append_left, get_or-append_right, get_or-take, get_or-drop, set-append_left, set-append_right, length-replicate, take-replicate, drop-replicate}
 use Rattle.std.proofs.Math.Seq.{take-set-lt, take-append_seam, drop-append_seam}
 use Rattle.shared_tables.specs.TreeColumns.{Trees}
-use Rattle.shared_tables.specs.ColumnsFromNumbers.{with_gap}
+use Rattle.shared_tables.specs.ColumnsFromNumbers.{AreInOrder, columns_of, with_gap}
+use Rattle.shared_tables.specs.declared.columns.Columns.TheInside.{Inside}
 
 -- ---- the words of all places, by those that are kept
 
@@ -97,10 +98,10 @@ module _ (l f : ℕ) (xs : List ℕ) (i v : ℕ) (lf : l ≤ f) where
   pub root_read : 262144 ≤ l → l ≤ length xs → (d : ℕ) → i < 262144 → get_or (split l f xs).words i d ≡ get_or xs i d
   root_read r t d lt = root_word (take l xs) (kept_length r t) i d lt ∙ get_or-take l xs i d (omega (arith, r, lt))
 
-  pub side_there : 262144 ≤ l → l ≤ length xs → 1048576 ≤ i → i < length (split l f xs).words → i - 786432 < l
+  side_there : 262144 ≤ l → l ≤ length xs → 1048576 ≤ i → i < length (split l f xs).words → i - 786432 < l
   side_there r t le lt = omega (arith, le, lt, words_length (take l xs) (kept_length r t), length-take l xs)
 
-  pub side_read : 262144 ≤ l → l ≤ length xs → (d : ℕ) → 1048576 ≤ i → i < length (split l f xs).words → get_or (split l f xs).words i d ≡ get_or xs (i - 786432) d
+  side_read : 262144 ≤ l → l ≤ length xs → (d : ℕ) → 1048576 ≤ i → i < length (split l f xs).words → get_or (split l f xs).words i d ≡ get_or xs (i - 786432) d
   side_read r t d le lt = side_word (take l xs) (kept_length r t) i d le ∙ get_or-take l xs (i - 786432) d (side_there r t le lt)
 
   word_set : (k : ℕ) → k < l → split l f (slice_set xs k v) ≡ record (split l f xs) { words = with_gap (slice_set (take l xs) k v) }
@@ -113,7 +114,7 @@ module _ (l f : ℕ) (xs : List ℕ) (i v : ℕ) (lf : l ≤ f) where
   pub root_written : 262144 ≤ l → l ≤ length xs → i < 262144 → split l f (slice_set xs i v) ≡ record (split l f xs) { words = slice_set (split l f xs).words i v }
   root_written r t lt = word_set i (omega (arith, r, lt)) ∙ ap (λ (ws : List ℕ). record (split l f xs) { words = ws }) (sym (root_set (take l xs) (kept_length r t) i v lt))
 
-  pub side_written : 262144 ≤ l → l ≤ length xs → 1048576 ≤ i → i < length (split l f xs).words → split l f (slice_set xs (i - 786432) v) ≡ record (split l f xs) { words = slice_set (split l f xs).words i v }
+  side_written : 262144 ≤ l → l ≤ length xs → 1048576 ≤ i → i < length (split l f xs).words → split l f (slice_set xs (i - 786432) v) ≡ record (split l f xs) { words = slice_set (split l f xs).words i v }
   side_written r t le lt = word_set (i - 786432) (side_there r t le lt) ∙ ap (λ (ws : List ℕ). record (split l f xs) { words = ws }) (sym (side_set (take l xs) (kept_length r t) i v le))
 
   pub leaf_set : i < length (take (f - l) (drop l xs)) → split l f (slice_set xs (l + i) v) ≡ record (split l f xs) { leaves = slice_set (take (f - l) (drop l xs)) i v }
@@ -158,3 +159,22 @@ module _ (ws bs cs : List ℕ) (l f : ℕ) (la : length ws ≡ l) (fb : l + leng
   -- three lists one behind another are the columns
   pub parts : split l f (ws ++ (bs ++ cs)) ≡ record { words = with_gap ws; leaves = bs; forks = cs }
   parts = λ k. record { words = with_gap (first k); leaves = second k; forks = behind_second k }
+
+-- the word at the side of a fork, as it is seen
+module _ (a : Inside) (h : AreInOrder a) (w : Trees) (seen : columns_of a ≡ w) (i : ℕ) (side : 1048576 ≤ i) (there : i < length w.words) where
+  fits : a.leaves ≤ length a.numbers.items
+  fits = omega (arith, h.leaves, h.forks)
+
+  within : i < length (split a.leaves a.forks a.numbers.items).words
+  within = subst (λ (t : Trees). i < length t.words) (sym seen) there
+
+  pub side_kept : i - 786432 < length a.numbers.items
+  side_kept = omega (arith, side_there a.leaves a.forks a.numbers.items i 0 h.leaves h.roots fits side within, fits)
+
+  pub side_seen : (d : ℕ) → get_or a.numbers.items (i - 786432) d ≡ get_or w.words i d
+  side_seen d = sym (side_read a.leaves a.forks a.numbers.items i 0 h.leaves h.roots fits d side within) ∙ ap (λ (t : Trees). get_or t.words i d) seen
+
+  pub side_changed : (v : ℕ) → split a.leaves a.forks (slice_set a.numbers.items (i - 786432) v) ≡ record w { words = slice_set w.words i v }
+  side_changed v =
+      subst (λ (t : Trees). split a.leaves a.forks (slice_set a.numbers.items (i - 786432) v) ≡ record t { words = slice_set t.words i v }) seen
+      (side_written a.leaves a.forks a.numbers.items i v h.leaves h.roots fits side within)

@@ -1,19 +1,48 @@
 -- Where what has a number stands, and that it stands there alone.
-use Rattle.std.proofs.Common.{inl, inr, ◌⊎◌, ◌≡◌, ℕ, ◌<◌, ◌≤◌, true, false, cond, List, Option, nat_lt, refl, sym, ap, ◌∙◌, subst, arith}
+use Rattle.std.proofs.Common.{inl, inr, ◌⊎◌, ◌≡◌, ◌≢◌, ℕ, ◌<◌, ◌≤◌, true, false, cond, List, length, Option, Some, None, nat_lt, refl, sym, ap, ◌∙◌, subst, arith}
 use Rattle.std.proofs.lemmas.Bool.{cases_lt}
 use Rattle.std.proofs.lemmas.Bool.Decides.{nat_tests}
 use Rattle.shared_tables.specs.declared.trees.Target.{Target}
 use Rattle.shared_tables.specs.declared.trees.Target.TheVariants as target
+use Rattle.shared_tables.specs.Bucket.{tree_of}
 use Rattle.shared_tables.specs.Pool.{Held, entry_at}
 use Rattle.shared_tables.specs.Line.{is_on}
 use Rattle.shared_tables.specs.Shared.{tree_key}
 use Rattle.shared_tables.specs.Tree.{Tree, Leaf, Fork, leaves, IsTree, descend}
 use Rattle.shared_tables.specs.TreeColumns.{Trees, target_at, number_at, child_of, place_by}
-use Rattle.shared_tables.specs.TreesOfSlots.{IsPlaced, StandsAt, AreTreesOf}
-use Rattle.shared_tables.proofs.OnEntries.Linked.{by_bool}
-use Rattle.shared_tables.proofs.OnTrees.Buckets.{tree_same}
-use Rattle.shared_tables.proofs.OnTrees.TreeLemmas.{same_tree, tree_leaf, only_leaf, other_right, on_left, descend_on}
-use Rattle.shared_tables.proofs.OnTrees.TreesOfLemmas.{leaf_there, fork_stands, some_tree}
+use Rattle.shared_tables.specs.TreesOfSlots.{leaves_of, IsRooted, IsPlaced, StandsAt, AreTreesOf}
+use Rattle.shared_tables.proofs.OnEntries.Linked.{by_bool, nat_eq_refl}
+use Rattle.shared_tables.proofs.OnEntries.Threaded.{in_entries}
+use Rattle.shared_tables.proofs.OnTrees.Buckets.{tree_same, tree_small}
+use Rattle.shared_tables.proofs.OnTrees.TreeLemmas.{same_tree, tree_there, tree_leaf, only_leaf, other_right, on_left, descend_on}
+use Rattle.shared_tables.proofs.OnTrees.TreesOfLemmas.{leaf_there, fork_stands, HasTree, some_tree}
+
+-- a slot, and the tree in which the entry stands that it holds
+pub record OwnTree (es : List (Option Held)) (w : Trees) (c s : ℕ) : Type 0 where
+  pub in_range : c < 1048576
+  pub keyed : tree_key c (entry_at es s) ≡ true
+  pub in_pool : s < length es
+  pub has_leaf : s < length w.leaves
+  pub whole : HasTree es w.words c
+
+pub own_tree : (es : List (Option Held)) (w : Trees) → AreTreesOf es w → (e : Held) (s : ℕ) → entry_at es s ≡ Some e → OwnTree es w (tree_of e.vid e.mac) s
+own_tree es w h e s here =
+    let c = tree_of e.vid e.mac in
+    let in_range : c < 1048576 = tree_small e.vid e.mac in
+    let keyed : tree_key c (entry_at es s) ≡ true = ap (tree_key c) here ∙ nat_eq_refl c in
+    let in_pool : s < length es = in_entries (tree_key c) refl es s keyed in
+    let old = h.numbered c in_range in
+    record {
+      in_range = in_range;
+      keyed = keyed;
+      in_pool = in_pool;
+      has_leaf = omega (arith, in_pool, h.slots, h.sizes.leaves);
+      whole = some_tree es w.words c (there (target_at w.words) c old.tree (old.members s ∙ keyed) old.rooted) old;
+    }
+  where
+    there : (at : ℕ → Target) (c : ℕ) (t : Option Tree) → is_on s (leaves_of t) ≡ true → IsRooted at (at c) t → at c ≢ target.Nothing
+    there at c None on k = let bad : false ≡ true = on in cc
+    there at c (Some t) on k = tree_there at (at c) t k
 
 -- a small number is that of what stands at a root
 pub place_root : (c n : ℕ) → n < 1048576 → place_by c n ≡ c

@@ -11,12 +11,11 @@ use Rattle.shared_tables.specs.Tree.{Tree, Leaf, Fork, leaves, IsTree, descend, 
 use Rattle.shared_tables.specs.TreeColumns.{Trees, Names, target_at, number_at, child_of, place_by, standing, pruned}
 use Rattle.shared_tables.specs.TreesOfSlots.{keys_of, key_in, leaves_of, IsRooted, AnyParted, LeadsTo, IsTreeOf, Belongs, HasChildren, IsPlaced, StandsAt, spare_of, Keeps, AreTreesOf}
 use Rattle.shared_tables.proofs.OnEntries.Linked.{by_bool, equal, nat_eq_refl}
-use Rattle.shared_tables.proofs.OnEntries.Threaded.{in_entries}
-use Rattle.shared_tables.proofs.OnTrees.Buckets.{tree_small, tree_excl}
+use Rattle.shared_tables.proofs.OnTrees.Buckets.{tree_excl}
 use Rattle.shared_tables.proofs.OnTrees.TreeLemmas.{true_false, by_side, same_tree, some_leaf, tree_there, only_leaf, other_right, descend_own, parted_frame, prune_length, prune_parted, prune_on, prune_off, prune_leads, pruned_to, prune_frame_at, left_tree, IsLeft, IsShorter}
 use Rattle.shared_tables.proofs.OnTrees.Grafting.{one_more, weight_is}
-use Rattle.shared_tables.proofs.OnTrees.Places.{place_behind, placed, placed_alone, leaf_placed, fork_placed, leaf_place, leaf_alone, fork_alone}
-use Rattle.shared_tables.proofs.OnTrees.TreesOfLemmas.{apart, differ, nothing_word, in_words, written_same, written_other, number_same, number_other, entry_same, entry_other, keys_gone, held_beside, not_free, leaf_there, fork_stands, HasTree, tree_beside, some_tree, of_some_tree, belongs_leads}
+use Rattle.shared_tables.proofs.OnTrees.Places.{OwnTree, own_tree, place_behind, placed, placed_alone, leaf_placed, fork_placed, leaf_place, leaf_alone, fork_alone}
+use Rattle.shared_tables.proofs.OnTrees.TreesOfLemmas.{apart, differ, nothing_word, in_words, written_same, written_other, number_same, number_other, entry_same, entry_other, keys_gone, held_beside, not_free, leaf_there, fork_stands, tree_beside, some_tree, of_some_tree, belongs_leads}
 
 -- a target that isn't the fork stays
 to_same : (fork : ℕ) (rest t : Target) → ((b : ℕ) → t ≢ target.Fork fork b) → pruned_to fork rest t ≡ t
@@ -110,33 +109,14 @@ module _ (es : List (Option Held)) (w : Trees) (h : AreTreesOf es w) (e : Held) 
   place_is : place ≡ child_of fork side
   place_is = omega (arith, behind)
 
-  c_lt : c < 1048576
-  c_lt = tree_small e.vid e.mac
+  own : OwnTree es w c s
+  own = own_tree es w h e s here
 
-  keyed : tree_key c (entry_at es s) ≡ true
-  keyed = ap (tree_key c) here ∙ nat_eq_refl c
-
-  pub own_lt : s < length es
-  own_lt = in_entries (tree_key c) refl es s keyed
-
-  pub s_lt : s < length w.leaves
-  s_lt = omega (arith, own_lt, h.slots, h.sizes.leaves)
-
-  old : IsTreeOf es w.words c
-  old = h.numbered c c_lt
-
-  root_there : (t : Option Tree) → is_on s (leaves_of t) ≡ true → IsRooted at (at c) t → at c ≢ target.Nothing
-  root_there None on k = let bad : false ≡ true = on in cc
-  root_there (Some t) on k = tree_there at (at c) t k
-
-  mine : HasTree es w.words c
-  mine = some_tree es w.words c (root_there old.tree (old.members s ∙ keyed) old.rooted) old
-
-  on_mine : is_on s (leaves mine.tree) ≡ true
-  on_mine = mine.members s ∙ keyed
+  on_mine : is_on s (leaves own.whole.tree) ≡ true
+  on_mine = own.whole.members s ∙ own.keyed
 
   at_place : at place ≡ target.Leaf s
-  at_place = ap at (sym (place_behind c place behind)) ∙ leaf_place es w h s c c mine.tree (λ _. refl) mine.rooted on_mine
+  at_place = ap at (sym (place_behind c place behind)) ∙ leaf_place es w h s c c own.whole.tree (λ _. refl) own.whole.rooted on_mine
 
   at_own : at (child_of fork side) ≡ target.Leaf s
   at_own = ap at (sym place_is) ∙ at_place
@@ -148,13 +128,13 @@ module _ (es : List (Option Held)) (w : Trees) (h : AreTreesOf es w) (e : Held) 
   fork_lt = omega (arith, place_lt, behind, h.sizes.words)
 
   only : (p : ℕ) → at p ≡ target.Leaf s → p ≡ child_of fork side
-  only p q = sym (leaf_alone es w h c p s keyed q) ∙ place_behind c place behind ∙ place_is
+  only p q = sym (leaf_alone es w h c p s own.keyed q) ∙ place_behind c place behind ∙ place_is
 
   not_root : at c ≢ target.Leaf s
-  not_root q = omega (arith, sym (place_behind c place behind) ∙ leaf_alone es w h c c s keyed q, behind, c_lt)
+  not_root q = omega (arith, sym (place_behind c place behind) ∙ leaf_alone es w h c c s own.keyed q, behind, own.in_range)
 
   before : ForkPlace at c fork
-  before = from (fork_before at c s fork side two only c mine.tree (λ _. refl) mine.rooted on_mine)
+  before = from (fork_before at c s fork side two only c own.whole.tree (λ _. refl) own.whole.rooted on_mine)
     where
       from : (at c ≡ target.Leaf s) ⊎ ForkPlace at c fork → ForkPlace at c fork
       from (inl q) = absurd (not_root q)
@@ -274,35 +254,35 @@ module _ (es : List (Option Held)) (w : Trees) (h : AreTreesOf es w) (e : Held) 
   -- ---- the trees
 
   abbrev left : Option Tree
-  left = without (keys_of es s) mine.tree
+  left = without (keys_of es s) own.whole.tree
 
-  own_way : descend (keys_of es s) mine.tree ≡ s
-  own_way = descend_own (keys_of es) s mine.tree mine.parted on_mine
+  own_way : descend (keys_of es s) own.whole.tree ≡ s
+  own_way = descend_own (keys_of es) s own.whole.tree own.whole.parted on_mine
 
   off_left : is_on s (leaves_of left) ≡ false
-  off_left = prune_off (keys_of es) s mine.tree mine.parted on_mine
+  off_left = prune_off (keys_of es) s own.whole.tree own.whole.parted on_mine
 
   tree_left : (o : Option Tree) → left ≡ o → IsTreeOf es' w'.words c
   tree_left o is = from o is
-      (subst (IsShorter (length (leaves mine.tree))) is (prune_length (keys_of es s) mine.tree))
-      (subst (AnyParted (keys_of es)) is (prune_parted (keys_of es s) (keys_of es) mine.tree mine.parted))
+      (subst (IsShorter (length (leaves own.whole.tree))) is (prune_length (keys_of es s) own.whole.tree))
+      (subst (AnyParted (keys_of es)) is (prune_parted (keys_of es s) (keys_of es) own.whole.tree own.whole.parted))
       (subst (λ u. is_on s (leaves_of u) ≡ false) is off_left)
-      (λ j ne. subst (λ u. is_on j (leaves_of u) ≡ is_on j (leaves mine.tree)) is (prune_on (keys_of es s) j s mine.tree ne own_way))
-      (subst (IsLeft at at' s fork side two at_own moves (keys_of es) only (at c)) is (left_tree at at' s fork side two at_own moves (keys_of es) only (at c) mine.tree mine.rooted mine.parted on_mine))
+      (λ j ne. subst (λ u. is_on j (leaves_of u) ≡ is_on j (leaves own.whole.tree)) is (prune_on (keys_of es s) j s own.whole.tree ne own_way))
+      (subst (IsLeft at at' s fork side two at_own moves (keys_of es) only (at c)) is (left_tree at at' s fork side two at_own moves (keys_of es) only (at c) own.whole.tree own.whole.rooted own.whole.parted on_mine))
     where
-      from : (o : Option Tree) → left ≡ o → IsShorter (length (leaves mine.tree)) o → AnyParted (keys_of es) o → is_on s (leaves_of o) ≡ false
-          → ((j : ℕ) → nat_eq j s ≡ false → is_on j (leaves_of o) ≡ is_on j (leaves mine.tree)) → IsLeft at at' s fork side two at_own moves (keys_of es) only (at c) o → IsTreeOf es' w'.words c
+      from : (o : Option Tree) → left ≡ o → IsShorter (length (leaves own.whole.tree)) o → AnyParted (keys_of es) o → is_on s (leaves_of o) ≡ false
+          → ((j : ℕ) → nat_eq j s ≡ false → is_on j (leaves_of o) ≡ is_on j (leaves own.whole.tree)) → IsLeft at at' s fork side two at_own moves (keys_of es) only (at c) o → IsTreeOf es' w'.words c
       from None is short parted off on k = absurd (not_root k)
       from (Some u) is short parted off on k =
           let same : (i : ℕ) → is_on i (leaves u) ≡ true → keys_of es' i ≡ keys_of es i = λ i there. ap key_in (entry_other es s i None (λ q. true_false (is_on i (leaves u)) there (ap (λ j. is_on j (leaves u)) q ∙ off))) in
           of_some_tree es' w'.words c (record {
             tree = u;
-            rooted = subst (λ y. IsTree at' y u) (sym (moves c (tree_there at (at c) mine.tree mine.rooted) (root_not c 0 c_lt) (root_not c 1 c_lt))) k.1;
+            rooted = subst (λ y. IsTree at' y u) (sym (moves c (tree_there at (at c) own.whole.tree own.whole.rooted) (root_not c 0 own.in_range) (root_not c 1 own.in_range))) k.1;
             parted = parted_frame (keys_of es) (keys_of es') u same parted;
             members = λ i. by_bool (nat_eq i s)
-                (λ yes. ap (λ j. is_on j (leaves u)) (equal i s yes) ∙ off ∙ sym (ap (λ j. tree_key c (entry_at es' j)) (equal i s yes) ∙ ap (tree_key c) (entry_same es s None own_lt)))
-                (λ no. on i no ∙ mine.members i ∙ sym (ap (tree_key c) (entry_other es s i None (apart i s no))));
-            size = omega (arith, short, mine.size, one_more es c s None own_lt, weight_is c (entry_at es s) true keyed, weight_is c None false refl);
+                (λ yes. ap (λ j. is_on j (leaves u)) (equal i s yes) ∙ off ∙ sym (ap (λ j. tree_key c (entry_at es' j)) (equal i s yes) ∙ ap (tree_key c) (entry_same es s None own.in_pool)))
+                (λ no. on i no ∙ own.whole.members i ∙ sym (ap (tree_key c) (entry_other es s i None (apart i s no))));
+            size = omega (arith, short, own.whole.size, one_more es c s None own.in_pool, weight_is c (entry_at es s) true own.keyed, weight_is c None false refl);
           })
 
   nothing_stays : (p : ℕ) → p < 1048576 → at p ≡ target.Nothing → at' p ≡ target.Nothing
@@ -315,8 +295,8 @@ module _ (es : List (Option Held)) (w : Trees) (h : AreTreesOf es w) (e : Held) 
   tree_other : (c' : ℕ) → c' < 1048576 → nat_eq c' c ≡ false → IsTreeOf es' w'.words c'
   tree_other c' clt ne =
       let k = h.numbered c' clt in
-      let off : tree_key c' (entry_at es s) ≡ false = tree_excl c c' ne (entry_at es s) keyed in
-      tree_beside es w.words w'.words c' s None own_lt off refl k (rooted_other c' clt k.tree (k.members s ∙ off) k.rooted)
+      let off : tree_key c' (entry_at es s) ≡ false = tree_excl c c' ne (entry_at es s) own.keyed in
+      tree_beside es w.words w'.words c' s None own.in_pool off refl k (rooted_other c' clt k.tree (k.members s ∙ off) k.rooted)
 
   numbered : (c' : ℕ) → c' < 1048576 → IsTreeOf es' w'.words c'
   numbered c' clt = by_bool (nat_eq c' c) (λ yes. subst (IsTreeOf es' w'.words) (sym (equal c' c yes)) (tree_left left refl)) (λ no. tree_other c' clt no)
@@ -333,7 +313,7 @@ module _ (es : List (Option Held)) (w : Trees) (h : AreTreesOf es w) (e : Held) 
   forks_len = standing_forks rest above w
 
   number_own : number_at w'.leaves s ≡ fork
-  number_own = number_same moved.leaves s fork (omega (arith, s_lt, standing_leaves rest above w))
+  number_own = number_same moved.leaves s fork (omega (arith, own.has_leaf, standing_leaves rest above w))
 
   number_else : (i : ℕ) → i ≢ s → rest ≢ target.Leaf i → number_at w'.leaves i ≡ number_at w.leaves i
   number_else i ne q = number_other moved.leaves s fork i ne ∙ standing_leaf rest above w i q
@@ -456,7 +436,7 @@ module _ (es : List (Option Held)) (w : Trees) (h : AreTreesOf es w) (e : Held) 
       few = omega (arith, forks_len, h.sizes.few);
     };
     slots = omega (arith, forks_len, h.slots, length-set es s None);
-    keys = keys_gone es s own_lt h.keys;
+    keys = keys_gone es s own.in_pool h.keys;
     numbered = numbered;
     stands = standing_at;
     keeper = keeper';
@@ -476,13 +456,13 @@ module _ (es : List (Option Held)) (w : Trees) (h : AreTreesOf es w) (e : Held) 
 
   left_rooted : (o : Option Tree) → IsLeft at at' s fork side two at_own moves (keys_of es) only (at c) o → IsRooted at' (at' c) o
   left_rooted None k = absurd (not_root k)
-  left_rooted (Some u) k = subst (λ y. IsTree at' y u) (sym (moves c (tree_there at (at c) mine.tree mine.rooted) (root_not c 0 c_lt) (root_not c 1 c_lt))) k.1
+  left_rooted (Some u) k = subst (λ y. IsTree at' y u) (sym (moves c (tree_there at (at c) own.whole.tree own.whole.rooted) (root_not c 0 own.in_range) (root_not c 1 own.in_range))) k.1
 
-  belongs_mine : (key leaf : ℕ) → leaf ≢ s → descend key mine.tree ≡ leaf → Belongs w'.words c key (Some leaf)
+  belongs_mine : (key leaf : ℕ) → leaf ≢ s → descend key own.whole.tree ≡ leaf → Belongs w'.words c key (Some leaf)
   belongs_mine key leaf ne way = record {
     tree = left;
-    rooted = left_rooted left (left_tree at at' s fork side two at_own moves (keys_of es) only (at c) mine.tree mine.rooted mine.parted on_mine);
-    leads = prune_leads (keys_of es s) key s leaf mine.tree (differ leaf s ne) own_way way;
+    rooted = left_rooted left (left_tree at at' s fork side two at_own moves (keys_of es) only (at c) own.whole.tree own.whole.rooted own.whole.parted on_mine);
+    leads = prune_leads (keys_of es s) key s leaf own.whole.tree (differ leaf s ne) own_way way;
   }
 
   belongs_beside : (c' key : ℕ) → c' < 1048576 → nat_eq c' c ≡ false → (leaf : Option ℕ) → Belongs w.words c' key leaf → Belongs w'.words c' key leaf
@@ -492,14 +472,14 @@ module _ (es : List (Option Held)) (w : Trees) (h : AreTreesOf es w) (e : Held) 
       k = h.numbered c' clt
 
       off : tree_key c' (entry_at es s) ≡ false
-      off = tree_excl c c' ne (entry_at es s) keyed
+      off = tree_excl c c' ne (entry_at es s) own.keyed
 
       from : (t : Option Tree) → IsRooted at (at c') t → IsRooted at' (at' c') t
       from None r = nothing_stays c' clt r
       from (Some t) r =
-          let own = some_tree es w.words c' (tree_there at (at c') t r) k in
-          let same : t ≡ own.tree = same_tree at (at c') t own.tree r own.rooted in
-          rooted_other c' clt (Some t) (ap (λ u. is_on s (leaves u)) same ∙ own.members s ∙ off) r
+          let other = some_tree es w.words c' (tree_there at (at c') t r) k in
+          let same : t ≡ other.tree = same_tree at (at c') t other.tree r other.rooted in
+          rooted_other c' clt (Some t) (ap (λ u. is_on s (leaves u)) same ∙ other.members s ∙ off) r
 
   pub prune_belongs : (c' key : ℕ) → c' < 1048576 → (leaf : Option ℕ) → leaf ≢ Some s → Belongs w.words c' key leaf → Belongs w'.words c' key leaf
   prune_belongs c' key clt leaf ne b = by_bool (nat_eq c' c)
@@ -510,6 +490,6 @@ module _ (es : List (Option Held)) (w : Trees) (h : AreTreesOf es w) (e : Held) 
       here_belongs None ne b = absurd (empty b.tree b.rooted b.leads)
         where
           empty : (t : Option Tree) → IsRooted at (at c) t → LeadsTo key t None → ⊥
-          empty None r l = tree_there at (at c) mine.tree mine.rooted r
+          empty None r l = tree_there at (at c) own.whole.tree own.whole.rooted r
           empty (Some t) r l = absurd l
-      here_belongs (Some leaf) ne b = belongs_mine key leaf (λ q. ne (ap Some q)) (belongs_leads es w.words c key leaf b mine)
+      here_belongs (Some leaf) ne b = belongs_mine key leaf (λ q. ne (ap Some q)) (belongs_leads es w.words c key leaf b own.whole)

@@ -6,6 +6,7 @@ use Rattle.shared_tables.specs.Bucket.{tree_of}
 use Rattle.shared_tables.specs.TreeColumns.{Trees, Uproots, MayGo, number_at}
 use Rattle.shared_tables.specs.TreesOfSlots.{Belongs, AreTreesOf}
 use Rattle.shared_tables.proofs.OnTrees.Buckets.{tree_there}
+use Rattle.shared_tables.proofs.OnTrees.Places.{own_tree}
 use Rattle.shared_tables.proofs.OnTrees.Clearing as clear
 use Rattle.shared_tables.proofs.OnTrees.Pruning as prune
 
@@ -41,14 +42,14 @@ module _ (es : List (Option Held)) (w : Trees) (h : AreTreesOf es w) (e : Held) 
       from : (number_at w.leaves s < 1048576) ⊎ (1048576 ≤ number_at w.leaves s) → MayGo w (tree_of e.vid e.mac) s
       from (inl root) = record {
         number_there = tree_there e.vid e.mac;
-        slot_there = clear.s_lt es w h e s here root;
+        slot_there = (own_tree es w h e s here).has_leaf;
         place = clear.place_lt es w h e s here root;
         above = λ le. absurd (omega (arith, le, root));
         sibling = λ le. absurd (omega (arith, le, root));
       }
       from (inr behind) = record {
         number_there = tree_there e.vid e.mac;
-        slot_there = prune.s_lt es w h e s here behind;
+        slot_there = (own_tree es w h e s here).has_leaf;
         place = prune.place_lt es w h e s here behind;
         above = λ _. prune.above_lt es w h e s here behind;
         sibling = λ _. prune.rest_named es w h e s here behind;

@@ -62,6 +62,14 @@ fn numbers_and_names_are_those_of_the_table(rt: HostRuntime) {
     check_reasons(&rt, &REASONS);
 }
 
+#[test]
+fn each_reason_is_listed_at_its_number(rt: HostRuntime) {
+    for place in 0..40u8 {
+        let reason = frame_view::REASONS[usize::from(place)];
+        check(&rt, reason.number() == place + 1, reason.name());
+    }
+}
+
 const VIDS: [(&str, u16, bool); 5] = [
     ("0", 0, false),
     ("1", 1, true),

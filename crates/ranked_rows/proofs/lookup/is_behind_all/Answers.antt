@@ -1,4 +1,4 @@
-use Rattle.std.proofs.Common.{◌∙◌, ap, sym, ℕ, length, get_or}
+use Rattle.std.proofs.Common.{◌∙◌, ap, sym, ℕ}
 use Rattle.ranked_rows.specs.Rows.{row_at, stands_before}
 use Rattle.ranked_rows.proofs.Numbering.{behind_all}
 use Rattle.ranked_rows.proofs.lookup.is_behind_all.Goals as goal

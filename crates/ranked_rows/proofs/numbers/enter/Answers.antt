@@ -1,8 +1,9 @@
 use Rattle.std.proofs.Common.{◌≡◌, ◌≤◌, ◌∙◌, ap, sym, length, arith}
+use Rattle.std.proofs.lemmas.List.{drop_all, take_all}
 use Rattle.std.proofs.lemmas.List.Edits.{length-insert}
 use Rattle.std.specs.List.{insert}
 use Rattle.ranked_rows.specs.Rows.{rows_by, total}
-use Rattle.ranked_rows.proofs.Lists.{drop_behind, drop_whole, take_behind, take_whole}
+use Rattle.ranked_rows.proofs.Lists.{drop_behind, take_behind}
 use Rattle.ranked_rows.proofs.Numbering.{length_by}
 use Rattle.ranked_rows.proofs.numbers.enter.Goals as goal
 
@@ -23,11 +24,11 @@ returns-clause-rows g c =
     let rows = rows_by c.args.rows.now.items c.args.order.now.items in
     let many = length_by c.args.rows.now.items c.args.order.now.items c.requires.numbers.inside in
     let few : length (insert rows c.args.at c.args.row) ≤ 4096 = omega (arith, length-insert rows c.args.at c.args.row (omega (arith, many, c.requires.inside)), many, c.requires.numbers.many, c.requires.few, c.if-len-eq-MOST.false, c.len.ensures) in
-    c.append.ensures.rows ∙ sym (take_whole 4096 (insert rows c.args.at c.args.row) few)
+    c.append.ensures.rows ∙ sym (take_all 4096 (insert rows c.args.at c.args.row) few)
 
 pub returns-clause-rest : goal.returns-clause-rest
 returns-clause-rest g c =
     let rows = rows_by c.args.rows.now.items c.args.order.now.items in
     let many = length_by c.args.rows.now.items c.args.order.now.items c.requires.numbers.inside in
     let few : length (insert rows c.args.at c.args.row) ≤ 4096 = omega (arith, length-insert rows c.args.at c.args.row (omega (arith, many, c.requires.inside)), many, c.requires.numbers.many, c.requires.few, c.if-len-eq-MOST.false, c.len.ensures) in
-    c.none.ensures ∙ sym (ap (total g.C.Counts.joined g.C.Counts.none) (drop_whole 4096 (insert rows c.args.at c.args.row) few))
+    c.none.ensures ∙ sym (ap (total g.C.Counts.joined g.C.Counts.none) (drop_all 4096 (insert rows c.args.at c.args.row) few))

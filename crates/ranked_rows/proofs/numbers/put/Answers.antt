@@ -1,7 +1,7 @@
 use Rattle.std.proofs.Common.{◌∙◌, ap, sym, subst, drop, get_or, length, take, List, arith}
+use Rattle.std.proofs.lemmas.List.{length-set}
 use Rattle.ranked_rows.specs.Rows.{IsNumbering, row_of, rows_by, total}
 use Rattle.ranked_rows.specs.declared.row.Row.{Row}
-use Rattle.ranked_rows.proofs.Lists.{length_set}
 use Rattle.ranked_rows.proofs.Numbering.{length_by, more_rest, more_shown, numbers_set}
 use Rattle.ranked_rows.proofs.Places.{entered}
 use Rattle.ranked_rows.proofs.numbers.put.Goals as goal
@@ -32,7 +32,7 @@ returns-in-Ok-clause-numbers g c =
 pub returns-in-Ok-clause-few : goal.returns-in-Ok-clause-few
 returns-in-Ok-clause-few g c =
     let d = row_of c.args.key c.args.counts in
-    omega (arith, c.requires.few, ap length (c.more_of.ensures.rows d), length_set c.args.rows.now.items c.in-Ok.number (row_of (get_or c.args.rows.now.items c.in-Ok.number d).key (g.C.Counts.joined (get_or c.args.rows.now.items c.in-Ok.number d).counts c.args.counts)))
+    omega (arith, c.requires.few, ap length (c.more_of.ensures.rows d), length-set c.args.rows.now.items c.in-Ok.number (row_of (get_or c.args.rows.now.items c.in-Ok.number d).key (g.C.Counts.joined (get_or c.args.rows.now.items c.in-Ok.number d).counts c.args.counts)))
 
 pub returns-in-Err-clause-rows : goal.returns-in-Err-clause-rows
 returns-in-Err-clause-rows g c =

@@ -1,7 +1,6 @@
-use Rattle.std.proofs.Common.{List, sym, ap, ◌∙◌, subst}
-use Rattle.shared_tables.specs.declared.links.Links.{Links}
+use Rattle.std.proofs.Common.{sym, subst}
 use Rattle.shared_tables.specs.Pool.{Pool}
-use Rattle.shared_tables.specs.LinkSteps.{HoldsAny, pushed_back}
+use Rattle.shared_tables.specs.LinkSteps.{HoldsAny}
 use Rattle.shared_tables.specs.SlotsOfSegments.{share_at, last_in}
 use Rattle.shared_tables.proofs.OnEntries.SoundLemmas.{none_is}
 use Rattle.shared_tables.proofs.OnEntries.Admitting.{enter_frees, number_lt, counts_more, has_ends, lasts, may_attach, enter_whole, enters}
@@ -32,22 +31,12 @@ join_share-requires-clause-ends c = has_ends c.args.slots.now c.args.trees.now c
 
 pub returns-clause-whole : goal.returns-clause-whole
 returns-clause-whole c =
-    let n = c.args.newcomer.now in let s = c.take-slot.result in let took = c.take-slot.ensures.pool in
-    enter_whole c.args.slots.now c.args.trees.now c.args.shares.now.items c.args.moment c.requires.whole n c.requires.room c.requires.may_come s c.take-slot.ensures.free.0 c.take-slot.ensures.free.1
-    c.join_share.new.slots c.attach.new.trees c.join_share.new.shares.items c.is_none.result (none_is n.last c.is_none.result c.is_none.ensures)
-    (ap (λ (p : Pool). p.entries) c.join_share.ensures.pool ∙ ap (λ (p : Pool). p.entries) took)
-    (ap (λ (p : Pool). p.lines) c.join_share.ensures.pool ∙ ap (λ (ls : List Links). pushed_back ls (last_in (share_at c.args.shares.now.items n.vid) c.is_none.result) s) (ap (λ (p : Pool). p.lines) took))
-    c.join_share.ensures.shares
-    c.attach.ensures
+    let n = c.args.newcomer.now in
+    enter_whole c.args.slots.now c.args.trees.now c.args.shares.now.items c.args.moment c.requires.whole n c.requires.room c.requires.may_come c.take-slot.result c.take-slot.ensures.free.0 c.take-slot.ensures.free.1
+    c.join_share.new.slots c.attach.new.trees c.join_share.new.shares.items c.is_none.result (none_is n.last c.is_none.result c.is_none.ensures) c.take-slot.ensures.pool c.join_share.ensures.pool c.join_share.ensures.shares c.attach.ensures
 
 pub returns-clause-enters : goal.returns-clause-enters
-returns-clause-enters c = λ calls compared.
-    let n = c.args.newcomer.now in let s = c.take-slot.result in let took = c.take-slot.ensures.pool in
-    enters c.args.slots.now c.args.trees.now c.args.shares.now.items c.args.moment c.requires.whole n c.requires.room c.requires.may_come s c.take-slot.ensures.free.0 c.take-slot.ensures.free.1
-    c.join_share.new.slots c.attach.new.trees c.join_share.new.shares.items c.is_none.result (none_is n.last c.is_none.result c.is_none.ensures)
-    (ap (λ (p : Pool). p.entries) c.join_share.ensures.pool ∙ ap (λ (p : Pool). p.entries) took)
-    (ap (λ (p : Pool). p.lines) c.join_share.ensures.pool ∙ ap (λ (ls : List Links). pushed_back ls (last_in (share_at c.args.shares.now.items n.vid) c.is_none.result) s) (ap (λ (p : Pool). p.lines) took))
-    c.join_share.ensures.shares
-    c.attach.ensures
-    calls compared
-    (ap (λ (p : Pool). p.visited) c.join_share.ensures.pool ∙ ap (λ (p : Pool). p.visited) took)
+returns-clause-enters c =
+    let n = c.args.newcomer.now in
+    enters c.args.slots.now c.args.trees.now c.args.shares.now.items c.args.moment c.requires.whole n c.requires.room c.requires.may_come c.take-slot.result c.take-slot.ensures.free.0 c.take-slot.ensures.free.1
+    c.join_share.new.slots c.attach.new.trees c.join_share.new.shares.items c.is_none.result (none_is n.last c.is_none.result c.is_none.ensures) c.take-slot.ensures.pool c.join_share.ensures.pool c.join_share.ensures.shares c.attach.ensures

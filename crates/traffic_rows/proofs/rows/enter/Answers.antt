@@ -1,20 +1,25 @@
-use Rattle.std.proofs.Common.{◌≡◌, ◌∙◌, ◌≤◌, ◌<◌, ap, sym, length, arith}
-use Rattle.std.proofs.lemmas.List.{length-take}
+use Rattle.std.proofs.Common.{◌≡◌, ◌∙◌, ◌≤◌, ◌<◌, [], ◌∷◌, ap, sym, length, take, drop, arith}
+use Rattle.std.proofs.lemmas.List.{drop_at, length-take, take_at}
+use Rattle.std.proofs.lemmas.List.Edits.{insert_end}
 use Rattle.std.specs.List.{insert}
 use Rattle.std.specs.Vec.{vec_len, vec_capacity}
 use Rattle.traffic_rows.specs.Rows.{total}
-use Rattle.traffic_rows.proofs.Places.{drop_behind, drop_entered, take_behind, take_entered, take_few}
+use Rattle.traffic_rows.proofs.Places.{drop_entered, take_entered, take_few}
 use Rattle.traffic_rows.proofs.rows.enter.Goals as goal
 
 pub returns-then-at-eq-MOST-clause-rows : goal.returns-then-at-eq-MOST-clause-rows
 returns-then-at-eq-MOST-clause-rows c =
-    let long : length c.args.rows.now.items ≡ 4096 = omega (arith, c.if-at-eq-MOST.true, c.requires.inside, c.requires.few) in
-    rw c.if-at-eq-MOST.true (sym (take_behind 4096 c.args.rows.now.items c.args.row long))
+    let rows = c.args.rows.now.items in
+    let long : length rows ≡ 4096 = omega (arith, c.if-at-eq-MOST.true, c.requires.inside, c.requires.few) in
+    let behind : c.args.at ≡ length rows = omega (arith, c.if-at-eq-MOST.true, long) in
+    sym (ap (λ n. take 4096 (insert rows n c.args.row)) behind ∙ ap (take 4096) (insert_end rows c.args.row) ∙ take_at rows (c.args.row ∷ []) 4096 long)
 
 pub returns-then-at-eq-MOST-clause-rest : goal.returns-then-at-eq-MOST-clause-rest
 returns-then-at-eq-MOST-clause-rest c =
-    let long : length c.args.rows.now.items ≡ 4096 = omega (arith, c.if-at-eq-MOST.true, c.requires.inside, c.requires.few) in
-    rw c.if-at-eq-MOST.true (c.total_of_one.ensures ∙ ap total (sym (drop_behind 4096 c.args.rows.now.items c.args.row long)))
+    let rows = c.args.rows.now.items in
+    let long : length rows ≡ 4096 = omega (arith, c.if-at-eq-MOST.true, c.requires.inside, c.requires.few) in
+    let behind : c.args.at ≡ length rows = omega (arith, c.if-at-eq-MOST.true, long) in
+    c.total_of_one.ensures ∙ ap total (sym (ap (λ n. drop 4096 (insert rows n c.args.row)) behind ∙ ap (drop 4096) (insert_end rows c.args.row) ∙ drop_at rows (c.args.row ∷ []) 4096 long))
 
 pub insert-requires : goal.insert-requires
 insert-requires c = omega (arith, c.if-at-eq-MOST.false, c.requires.inside, c.requires.few, ap length c.pushed_out-rest.ensures.rows, length-take 4095 c.args.rows.now.items)

@@ -2,20 +2,19 @@ use Rattle.std.proofs.Common.{arith, ◌≡◌, ◌*◌, ℕ, ap, ◌∙◌}
 use Rattle.header_octets.proofs.OctetsLemmas.{field-slice}
 use Rattle.ip_udp_view.specs.Parts.{cut}
 use Rattle.ip_udp_view.specs.Ip.{Ip4, header_length, total_length, packet_parts}
-use Rattle.ip_udp_view.proofs.CutLemmas.{sliced, sliced-cut}
 use Rattle.ip_udp_view.proofs.IpLemmas.{IsGood4-to, split-as}
 use Rattle.ip_udp_view.proofs.ip4_view.Ip4View.read.Goals as goal
 
-header_is : (c : goal.After-result-2-1) → c.from-header.result * 4 ≡ header_length Ip4 c.args.octets.now
+header_is : (c : goal.After-cut-slices) → c.from-header.result * 4 ≡ header_length Ip4 c.args.octets.now
 header_is c = omega arith
 
-total_is : (c : goal.After-result-2-1) → c.from-total.result ≡ total_length c.args.octets.now
+total_is : (c : goal.After-cut-slices) → c.from-total.result ≡ total_length c.args.octets.now
 total_is c = c.from-total.ensures ∙ c.read_u16.ensures ∙ field-slice 2 2 c.args.octets.now
 
-parts : (c : goal.After-result-2-1) → sliced (c.from-header.result * 4) c.from-total.result c.args.octets.now ≡ packet_parts Ip4 c.args.octets.now
+parts : (c : goal.After-cut-slices) → c.cut-slices.result ≡ packet_parts Ip4 c.args.octets.now
 parts c =
     let b = c.args.octets.now in
-    sliced-cut (c.from-header.result * 4) c.from-total.result b (omega arith)
+    c.cut-slices.ensures
     ∙ ap (λ (n : ℕ). cut n c.from-total.result b) (header_is c)
     ∙ ap (λ (m : ℕ). cut (header_length Ip4 b) m b) (total_is c)
 

@@ -2,19 +2,16 @@ use Rattle.std.proofs.Common.{arith, ◌≡◌, ◌+◌, ℕ, ap, ◌∙◌}
 use Rattle.header_octets.proofs.OctetsLemmas.{field-slice}
 use Rattle.ip_udp_view.specs.Parts.{cut}
 use Rattle.ip_udp_view.specs.Ip.{Ip6, packet_length, packet_parts, SplitsIp}
-use Rattle.ip_udp_view.proofs.CutLemmas.{sliced, sliced-cut}
 use Rattle.ip_udp_view.proofs.IpLemmas.{IsGood6-to, split-as}
 use Rattle.ip_udp_view.proofs.ip6_view.Ip6View.read.Goals as goal
 
-end_is : (c : goal.After-result-2-1) → 40 + c.from-end.result ≡ packet_length Ip6 c.args.octets.now
+end_is : (c : goal.After-cut-slices) → 40 + c.from-end.result ≡ packet_length Ip6 c.args.octets.now
 end_is c = ap (λ (n : ℕ). 40 + n) (c.from-end.ensures ∙ c.read_u16.ensures ∙ field-slice 2 4 c.args.octets.now)
 
-parts : (c : goal.After-result-2-1) → sliced 40 (40 + c.from-end.result) c.args.octets.now ≡ packet_parts Ip6 c.args.octets.now
-parts c =
-    let b = c.args.octets.now in
-    sliced-cut 40 (40 + c.from-end.result) b (omega arith) ∙ ap (λ (m : ℕ). cut 40 m b) (end_is c)
+parts : (c : goal.After-cut-slices) → c.cut-slices.result ≡ packet_parts Ip6 c.args.octets.now
+parts c = c.cut-slices.ensures ∙ ap (λ (m : ℕ). cut 40 m c.args.octets.now) (end_is c)
 
-split : (c : goal.After-result-2-1) → SplitsIp Ip6 c.args.octets.now (sliced 40 (40 + c.from-end.result) c.args.octets.now)
+split : (c : goal.After-cut-slices) → SplitsIp Ip6 c.args.octets.now c.cut-slices.result
 split c =
     let end = end_is c in
     split-as Ip6 c.args.octets.now _ (IsGood6-to c.args.octets.now (record { room = omega arith; version_is = omega arith; there = omega arith })) (parts c)

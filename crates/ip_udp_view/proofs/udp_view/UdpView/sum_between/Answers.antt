@@ -1,25 +1,24 @@
-use Rattle.std.proofs.Common.{rules, arith, ◌≡◌, ◌+◌, ◌++◌, ◌∙◌, length, sym, subst, ap}
+use Rattle.std.proofs.Common.{rules, arith, ◌≡◌, ◌+◌, ◌++◌, ◌∙◌, length, sym, ap}
 use Rattle.header_octets.specs.Sum.{total, folded}
 use Rattle.header_octets.proofs.FoldLemmas.{folded-added}
 use Rattle.header_octets.proofs.SumLemmas.{total-append_even}
 use Rattle.ip_udp_view.specs.Addr.{IsAddr}
 use Rattle.ip_udp_view.specs.Parts.{Parts}
 use Rattle.ip_udp_view.specs.Udp.{pseudo}
+use Rattle.ip_udp_view.specs.declared.udp_view.UdpView.TheInside.{Inside}
 use Rattle.ip_udp_view.proofs.PseudoLemmas.{total-behind_pseudo}
 use Rattle.ip_udp_view.proofs.udp_view.UdpView.sum_between.Goals as goal
 
 pub returns : goal.returns
 returns c =
-    let h = c.self.inside.head.now in
-    let d = c.self.inside.payload.now in
+    let v = c.args.self.now in
+    let datagram = v.head ++ v.payload in
     let src : IsAddr c.args.src = search rules in
     let dst : IsAddr c.args.dst = search rules in
-    let octets = c.self.invariant.octets in
-    let Told : Parts → Type 0 = λ v. c.pseudo_words-pseudo.result ≡ total (pseudo c.args.src c.args.dst (length (v.head ++ v.payload))) in
-    let told : Told (record { head = h; payload = d; tail = c.self.inside.tail.now }) = subst Told (sym c.self.view_is) c.pseudo_words-pseudo.ensures.sum in
+    let octets : length v.head ≡ 8 = ap (λ (w : Parts). length w.head) (sym c.self.view_is) ∙ c.self.invariant.octets in
+    let head : c.words.result ≡ total v.head = c.words.ensures.sum ∙ ap (λ (i : Inside). total i.slices.head) c.self-inside.view_is ∙ ap (λ (w : Parts). total w.head) c.self.view_is in
+    let payload : c.folded.result ≡ folded (total v.payload) = c.folded.ensures ∙ ap (λ (i : Inside). folded (total i.slices.payload)) c.self-inside.view_is ∙ ap (λ (w : Parts). folded (total w.payload)) c.self.view_is in
     let front = c.pseudo_words-pseudo.result + c.words.result in
-    let P : Parts → Type 0 = λ v. let datagram = v.head ++ v.payload in
-    folded (front + folded (total d)) ≡ folded (total (pseudo c.args.src c.args.dst (length datagram) ++ datagram)) in
-    let whole : front + total d ≡ total (pseudo c.args.src c.args.dst (length (h ++ d)) ++ (h ++ d)) =
-    omega (arith, told, total-behind_pseudo c.args.src c.args.dst (length (h ++ d)) (h ++ d) src dst, total-append_even h d (omega arith), c.words.ensures.sum) in
-    rw (c.fold.ensures, c.from.ensures, c.folded.ensures) (subst P c.self.view_is (folded-added front (total d) ∙ ap folded whole))
+    let whole : front + total v.payload ≡ total (pseudo c.args.src c.args.dst (length datagram) ++ datagram) =
+    omega (arith, head, c.pseudo_words-pseudo.ensures.sum, total-behind_pseudo c.args.src c.args.dst (length datagram) datagram src dst, total-append_even v.head v.payload (omega (arith, octets))) in
+    rw (c.fold.ensures, c.from.ensures, payload) (folded-added front (total v.payload) ∙ ap folded whole)

@@ -1,11 +1,11 @@
-use Rattle.std.proofs.Common.{ℕ, Option, refl, sym, ap, ◌∙◌, subst, arith}
+use Rattle.std.proofs.Common.{refl, sym, ap, ◌∙◌, subst, arith}
 use Rattle.shared_tables.specs.declared.links.Links.{Links}
 use Rattle.shared_tables.specs.declared.shared_tables.SharedTables.TheInside.{Inside}
 use Rattle.shared_tables.specs.Shared.{Shared, DropsAll}
 use Rattle.shared_tables.specs.SharedFromFields.{shared_of}
 use Rattle.shared_tables.proofs.OnEntries.Dropping.{threaded}
 use Rattle.shared_tables.proofs.OnTrees.Uprooting.{may_go}
-use Rattle.shared_tables.proofs.OnEntries.Passing.{Passes, seen_there, pass_starts, pass_held, pass_stays, pass_keep, pass_drop, pass_none, pass_ends, pass_at, pass_stands}
+use Rattle.shared_tables.proofs.OnEntries.Passing.{seen_there, pass_starts, pass_held, pass_stays, pass_keep, pass_drop, pass_none, pass_ends, pass_at, pass_stands, pass_to}
 use Rattle.shared_tables.proofs.OnEntries.SoundLemmas.{share_read}
 use Rattle.shared_tables.proofs.shared_tables.SharedTables.drop_place.Goals as goal
 use Rattle.shared_tables.proofs.shared_tables.SharedTables.drop_place.Goals.{in-Some-slot+then-is_same, in-Some-slot+else-is_same, in_default-slot}
@@ -22,53 +22,47 @@ loop-entry-init c =
 
 pub links-cursor-requires : goal.links-cursor-requires
 links-cursor-requires c =
-    let now = c.loop-entry.self-inside in let slot = c.in-Some-slot.slot in let count = c.in-Some.share.count in
-    let w = subst (λ (o : Option ℕ). Passes c.self.inside.slots now.slots now.trees c.self.inside.shares.items now.shares.items now.moment c.args.vid c.args.place o c.loop-entry._entry count) (sym c.slot.ensures ∙ c.in-Some-slot.is) c.loop-entry.invariant.passes in
-    let held = pass_held c.self.inside.slots now.slots now.trees c.self.inside.shares.items now.shares.items now.moment c.args.vid c.args.place slot c.loop-entry._entry count w in
+    let held = pass_held (pass_to (sym c.slot.ensures ∙ c.in-Some-slot.is) c.loop-entry.invariant.passes) in
     record { in_pool = held.in_pool; held = held.held }
 
 pub place-requires : goal.place-requires
 place-requires c =
-    let now = c.loop-entry.self-inside in let slot = c.in-Some-slot.slot in let count = c.in-Some.share.count in
-    let w = subst (λ (o : Option ℕ). Passes c.self.inside.slots now.slots now.trees c.self.inside.shares.items now.shares.items now.moment c.args.vid c.args.place o c.loop-entry._entry count) (sym c.slot.ensures ∙ c.in-Some-slot.is) c.loop-entry.invariant.passes in
-    let held = pass_held c.self.inside.slots now.slots now.trees c.self.inside.shares.items now.shares.items now.moment c.args.vid c.args.place slot c.loop-entry._entry count w in
+    let held = pass_held (pass_to (sym c.slot.ensures ∙ c.in-Some-slot.is) c.loop-entry.invariant.passes) in
     record { in_pool = held.in_pool; held = held.held }
 
 pub drop_entry-requires : goal.drop_entry-requires
 drop_entry-requires c =
-    let now = c.loop-entry.self-inside in let slot = c.in-Some-slot.slot in let count = c.in-Some.share.count in
-    let w = subst (λ (o : Option ℕ). Passes c.self.inside.slots now.slots now.trees c.self.inside.shares.items now.shares.items now.moment c.args.vid c.args.place o c.loop-entry._entry count) (sym c.slot.ensures ∙ c.in-Some-slot.is) c.loop-entry.invariant.passes in
-    let own = pass_stays c.self.inside.slots now.slots now.trees c.self.inside.shares.items now.shares.items now.moment c.args.vid c.args.place slot c.loop-entry._entry count w in
-    let k = threaded now.slots.entries now.slots.lines now.shares.items now.moment w.sound c.args.vid slot (pass_stays c.self.inside.slots now.slots now.trees c.self.inside.shares.items now.shares.items now.moment c.args.vid c.args.place slot c.loop-entry._entry count w) in
-    record { held = k.held; line_previous = k.line_previous; line_next = k.line_next; sizes = w.grown.sizes; may_go = may_go now.slots.entries now.trees w.grown own.entry slot own.at_slot; shares = omega (arith, w.sound.shares_length, now.shares.ok.0); counted = k.counted }
+    let now = c.loop-entry.self-inside in
+    let w = pass_to (sym c.slot.ensures ∙ c.in-Some-slot.is) c.loop-entry.invariant.passes in
+    let own = pass_stays w in
+    let k = threaded now.slots.entries now.slots.lines now.shares.items now.moment w.sound c.args.vid c.in-Some-slot.slot own in
+    record { held = k.held; line_previous = k.line_previous; line_next = k.line_next; sizes = w.grown.sizes; may_go = may_go now.slots.entries now.trees w.grown own.entry c.in-Some-slot.slot own.at_slot; shares = omega (arith, w.sound.shares_length, now.shares.ok.0); counted = k.counted }
 
 pub loop-entry-preserved : goal.loop-entry-preserved
 loop-entry-preserved c = elim c.match-slot.branch [
   | in-Some-slot+then-is_same w ↦
-      let now = c.loop-entry.self-inside in let slot = w.in-Some-slot.slot in let count = c.in-Some.share.count in
-      let p = subst (λ (o : Option ℕ). Passes c.self.inside.slots now.slots now.trees c.self.inside.shares.items now.shares.items now.moment c.args.vid c.args.place o c.loop-entry._entry count) (sym c.slot.ensures ∙ w.in-Some-slot.is) c.loop-entry.invariant.passes in
-      let stands = pass_stands c.self.inside.slots now.slots now.trees c.self.inside.shares.items now.shares.items now.moment c.args.vid c.args.place slot c.loop-entry._entry count p w.place.result w.is_same.result w.place.ensures w.is_same.ensures in
+      let p = pass_to (sym c.slot.ensures ∙ w.in-Some-slot.is) c.loop-entry.invariant.passes in
+      let stands = pass_stands p w.place.result w.is_same.result w.place.ensures w.is_same.ensures in
       record {
-        passes = pass_at c.self.inside.slots c.self.inside.shares.items c.args.vid c.args.place c.match-slot.self-inside _ _ _ _ count (w.cursor-is ∙ ap (λ (l : Links). l.next) w.links-cursor.ensures) w.self-inside-is (pass_drop c.self.inside.slots now.slots now.trees c.self.inside.shares.items now.shares.items now.moment c.args.vid c.args.place slot c.loop-entry._entry count p (stands ∙ w.if-is_same.true) w.drop_entry.new.slots w.drop_entry.new.trees w.drop_entry.new.shares.items w.drop_entry.ensures.pool w.drop_entry.ensures.trees w.drop_entry.ensures.shares);
+        passes = pass_at c.self.inside.slots c.self.inside.shares.items c.args.vid c.args.place c.match-slot.self-inside _ _ _ _ c.in-Some.share.count (w.cursor-is ∙ ap (λ (l : Links). l.next) w.links-cursor.ensures) w.self-inside-is (pass_drop p (stands ∙ w.if-is_same.true) w.drop_entry.new.slots w.drop_entry.new.trees w.drop_entry.new.shares.items w.drop_entry.ensures.pool w.drop_entry.ensures.trees w.drop_entry.ensures.shares);
         moment = ap (λ (i : Inside). i.moment) w.self-inside-is ∙ c.loop-entry.invariant.moment;
         calls = ap (λ (i : Inside). i.calls.total) w.self-inside-is ∙ c.loop-entry.invariant.calls;
         compared = ap (λ (i : Inside). i.compared.total) w.self-inside-is ∙ c.loop-entry.invariant.compared;
       }
   | in-Some-slot+else-is_same w ↦
-      let now = c.loop-entry.self-inside in let slot = w.in-Some-slot.slot in let count = c.in-Some.share.count in
-      let p = subst (λ (o : Option ℕ). Passes c.self.inside.slots now.slots now.trees c.self.inside.shares.items now.shares.items now.moment c.args.vid c.args.place o c.loop-entry._entry count) (sym c.slot.ensures ∙ w.in-Some-slot.is) c.loop-entry.invariant.passes in
-      let stands = pass_stands c.self.inside.slots now.slots now.trees c.self.inside.shares.items now.shares.items now.moment c.args.vid c.args.place slot c.loop-entry._entry count p w.place.result w.is_same.result w.place.ensures w.is_same.ensures in
+      let p = pass_to (sym c.slot.ensures ∙ w.in-Some-slot.is) c.loop-entry.invariant.passes in
+      let stands = pass_stands p w.place.result w.is_same.result w.place.ensures w.is_same.ensures in
       record {
-        passes = pass_at c.self.inside.slots c.self.inside.shares.items c.args.vid c.args.place c.match-slot.self-inside _ _ _ _ count (w.cursor-is ∙ ap (λ (l : Links). l.next) w.links-cursor.ensures) w.self-inside-is (pass_keep c.self.inside.slots now.slots now.trees c.self.inside.shares.items now.shares.items now.moment c.args.vid c.args.place slot c.loop-entry._entry count p (stands ∙ w.if-is_same.false));
+        passes = pass_at c.self.inside.slots c.self.inside.shares.items c.args.vid c.args.place c.match-slot.self-inside _ _ _ _ c.in-Some.share.count (w.cursor-is ∙ ap (λ (l : Links). l.next) w.links-cursor.ensures) w.self-inside-is (pass_keep p (stands ∙ w.if-is_same.false));
         moment = ap (λ (i : Inside). i.moment) w.self-inside-is ∙ c.loop-entry.invariant.moment;
         calls = ap (λ (i : Inside). i.calls.total) w.self-inside-is ∙ c.loop-entry.invariant.calls;
         compared = ap (λ (i : Inside). i.compared.total) w.self-inside-is ∙ c.loop-entry.invariant.compared;
       }
   | in_default-slot w ↦
-      let now = c.loop-entry.self-inside in let count = c.in-Some.share.count in
-      let p = subst (λ (o : Option ℕ). Passes c.self.inside.slots now.slots now.trees c.self.inside.shares.items now.shares.items now.moment c.args.vid c.args.place o c.loop-entry._entry count) (sym c.slot.ensures ∙ w.in_default-slot.is) c.loop-entry.invariant.passes in
+      let now = c.loop-entry.self-inside in
+      let p = pass_to (sym c.slot.ensures ∙ w.in_default-slot.is) c.loop-entry.invariant.passes in
       record {
-        passes = pass_at c.self.inside.slots c.self.inside.shares.items c.args.vid c.args.place c.match-slot.self-inside _ _ _ _ count (w.cursor-is ∙ sym c.slot.ensures ∙ w.in_default-slot.is) w.self-inside-is (pass_none c.self.inside.slots now.slots now.trees c.self.inside.shares.items now.shares.items now.moment c.args.vid c.args.place c.loop-entry._entry count c.loop-entry-test.true p);
+        passes = pass_at c.self.inside.slots c.self.inside.shares.items c.args.vid c.args.place c.match-slot.self-inside _ _ _ _ c.in-Some.share.count (w.cursor-is ∙ sym c.slot.ensures ∙ w.in_default-slot.is) w.self-inside-is (pass_none c.self.inside.slots now.slots now.trees c.self.inside.shares.items now.shares.items now.moment c.args.vid c.args.place c.loop-entry._entry c.in-Some.share.count c.loop-entry-test.true p);
         moment = ap (λ (i : Inside). i.moment) w.self-inside-is ∙ c.loop-entry.invariant.moment;
         calls = ap (λ (i : Inside). i.calls.total) w.self-inside-is ∙ c.loop-entry.invariant.calls;
         compared = ap (λ (i : Inside). i.compared.total) w.self-inside-is ∙ c.loop-entry.invariant.compared;

@@ -1,5 +1,5 @@
 -- A frame has at most as many outlets as there are ports and remotes that its segment floods to, or one.
-use Rattle.std.proofs.Common.{◌≡◌, ◌≤◌, ◌+◌, ◌∙◌, sym, ap, ℕ, Bool, true, false, if◌then◌else◌, List, [], ◌∷◌, ◌++◌, map, length, length-append, arith, Option, Some, None, Result, Ok, Err, IfOk}
+use Rattle.std.proofs.Common.{◌≡◌, ◌≤◌, ◌+◌, ◌∙◌, sym, ap, subst, ℕ, Bool, true, false, if◌then◌else◌, List, [], ◌∷◌, ◌++◌, map, length, length-append, arith, Option, Some, None, Result, Ok, Err, IfOk}
 use Rattle.std.proofs.lemmas.List.{length-map}
 use Rattle.std.proofs.lemmas.List.FromFn.{length-map-range_with_len}
 use Rattle.std.proofs.lemmas.List.Sums.{count_by-le-length, length-filter}
@@ -90,7 +90,7 @@ decided_few t B x few is_vid =
     (verdict_few B.settings.ports (B.settings.bridges x.vid) _ _ x.from x.frame _ 32 (omega arith) (few x.vid is_vid))
 
 -- so a course has few places that is decided as a frame or packet was
-pub few_places : (S : Settings) (course : Course) (places : List Place) (came : Result Came Refused) (t : ℕ) (B : Bridges) → HasFewOutlets B.settings
+few_places : (S : Settings) (course : Course) (places : List Place) (came : Result Came Refused) (t : ℕ) (B : Bridges) → HasFewOutlets B.settings
     → IsOfWhatCame came course → Decided (decision_of S course places) ≡ Decided (decided t B came) → IfOk course (λ x. IsVid x.vid → length places ≤ 32)
 few_places S (Err refused) places came t B few of is = tt
 few_places S (Ok x) places (Err refused) t B few of is = absurd cc
@@ -98,3 +98,9 @@ few_places S (Ok x) places (Ok y) t B few of is = λ is_vid.
     let same = sym (same_Ok y x of) in
     let told = ap (λ a. length (outcomes_in a)) is ∙ ap (λ z. length (decided t B (Ok z)).outcomes) (sym same) in
     omega (arith, told, length-map places (sent_at S x.vid x.frame), decided_few t B x few is_vid)
+
+-- and so has it in a list that holds the same
+pub few_slice : (S : Settings) (course : Course) (places slice : List Place) (came : Result Came Refused) (t : ℕ) (B : Bridges) → HasFewOutlets B.settings
+    → IsOfWhatCame came course → Decided (decision_of S course places) ≡ Decided (decided t B came) → slice ≡ places → IfOk course (λ x. IsVid x.vid → length slice ≤ 32)
+few_slice S course places slice came t B few of is same =
+    subst (λ (ps : List Place). IfOk course (λ x. IsVid x.vid → length ps ≤ 32)) (sym same) (few_places S course places came t B few of is)

@@ -43,7 +43,7 @@ settings-chosen : (b : Bool) (t : ℕ) (c : Change) (B : Bridges) → (cond b (a
 settings-chosen true t c B = refl
 settings-chosen false t c B = refl
 
-settings-event : (t : ℕ) (B : Bridges) (i : Input) → (bridges_after t B i).settings ≡ settings_after_input B.settings i
+pub settings-event : (t : ℕ) (B : Bridges) (i : Input) → (bridges_after t B i).settings ≡ settings_after_input B.settings i
 settings-event t B (FrameAt port original b) = settings-frame t B (came_at B.settings.ports B.settings.overlay port original b)
 settings-event t B (Packet original b) = settings-frame t B (came_by B.settings.overlay original b)
 settings-event t B (Asks c) = settings-chosen (is_none (refused B.settings c)) t c B

@@ -41,14 +41,8 @@ effect-other w (SetLimit vid limit) other = other
 
 -- a segment that gets or loses a member is there
 abbrev pub IsThere : Settings → Effect → Type 0
-IsThere S (ToFlood vid change) = Unit {0}
-IsThere S (ToBridge vid change) = Unit {0}
-IsThere S (ToLimit vid limit) = Unit {0}
 IsThere S (ToMembers vid port egress) = is_some (members_at S.ports vid) ≡ true
-IsThere S (ToPort port up) = Unit {0}
-IsThere S (Comes new) = Unit {0}
-IsThere S (Goes vid) = Unit {0}
-IsThere S ToNothing = Unit {0}
+IsThere S _ = Unit {0}
 
 -- of a segment that isn't there nothing is asked
 there_where : (bridge : Option BridgeSettings) (segment : Option Tunneled) (members : Option Members) (next : SegmentSettings → Option ChangeFault) → is_none (in_segment (option_and_then (λ b. option_and_then (λ g. option_map (λ m. joined b g m) members) segment) bridge) next) ≡ true → is_some members ≡ true

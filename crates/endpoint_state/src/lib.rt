@@ -1,8 +1,8 @@
 //! What a tunnel endpoint holds, and what a change does to it: its ports and the members of its segments (IEEE 802.1Q), its
 //! underlay with each segment's tunnels and flood list (RFC 7348, RFC 8926), the segments' tables, and which of them learn.
 //!
-//! Use first: [`EndpointState`] is opened with settings, a [`Change`] is made to it or refused with a [`ChangeFault`], and it
-//! steps the bridge of a segment for a frame. It knows no header of a packet.
+//! Use first: [`EndpointState`] is opened with settings, a [`Change`] is made to it or refused with a [`ChangeFault`]
+//! ([`CHANGE_FAULTS`] lists them), and it steps the bridge of a segment for a frame. It knows no header of a packet.
 //!
 //! Specs to read: `specs/Settings` and `specs/State`, then `specs/Change` and `specs/Effect`; `specs/Step` for the bridge's
 //! step, and `specs/Work` for what a change costs of the tables at most.
@@ -22,6 +22,7 @@
 
 mod checks;
 mod fault;
+mod faults;
 mod flood_changes;
 pub mod laws;
 mod layers;
@@ -35,6 +36,7 @@ mod table_changes;
 
 pub use checks::kind_of;
 pub use fault::ChangeFault;
+pub use faults::CHANGE_FAULTS;
 pub use overlay_settings::{Change, NewSegment, Target};
 pub use segment_changes::is_limit;
 pub use state::EndpointState;

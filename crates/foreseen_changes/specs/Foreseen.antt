@@ -6,9 +6,7 @@ use Rattle.std.specs.Prelude.{decimal, fold, filter, length, slice_get, take, Op
 use Rattle.std.specs.List.{filter_map, range_with_len}
 use Rattle.std.specs.Option.{option_and_then, option_map, option_to_list}
 use Rattle.overlay_settings.specs.declared.change.Change.{Change}
-use Rattle.overlay_settings.specs.declared.change.Change.TheVariants.{AddFlood, RemoveFlood, Fix, Unfix, SetAgeing}
-use Rattle.overlay_settings.specs.declared.change.Change.TheVariants.{SetLearning, SetMember, PortUp, PortDown}
-use Rattle.overlay_settings.specs.declared.change.Change.TheVariants.{Flush, AddSegment, RemoveSegment, SetLimit}
+use Rattle.overlay_settings.specs.declared.change.Change.TheVariants.{Unfix}
 use Rattle.overlay_settings.specs.declared.change.TimedChange.{TimedChange}
 use Rattle.endpoint_state.specs.Change.{changed, refused}
 use Rattle.endpoint_state.specs.Fault.{name_of, number_of}
@@ -48,35 +46,13 @@ TellsEachRefusal = (S : Settings) (changes : List TimedChange) (k : ℕ)
 -- a change that takes a fixed entry away
 abbrev pub is_unfix : Change → Bool
 is_unfix (Unfix vid mac) = true
-is_unfix (AddFlood vid addr tunnel) = false
-is_unfix (RemoveFlood vid addr tunnel) = false
-is_unfix (Fix vid mac target) = false
-is_unfix (SetAgeing vid seconds) = false
-is_unfix (SetLearning vid on) = false
-is_unfix (SetMember vid port egress) = false
-is_unfix (PortUp port) = false
-is_unfix (PortDown port) = false
-is_unfix (Flush vid) = false
-is_unfix (AddSegment new) = false
-is_unfix (RemoveSegment vid) = false
-is_unfix (SetLimit vid limit) = false
+is_unfix _ = false
 
 -- the fault of a change, unless it is that of a table: no room for a fixed entry, or none to take away
 abbrev pub by_settings : Change → ChangeFault → Option ChangeFault
-by_settings c faults.NoSegment = Some faults.NoSegment
-by_settings c faults.NoPort = Some faults.NoPort
-by_settings c faults.AlreadyThere = Some faults.AlreadyThere
 by_settings c faults.NotThere = if is_unfix c then None else Some faults.NotThere
-by_settings c faults.FloodFull = Some faults.FloodFull
 by_settings c faults.TableFull = None
-by_settings c faults.GroupAddress = Some faults.GroupAddress
-by_settings c faults.OutOfRange = Some faults.OutOfRange
-by_settings c faults.NoFamily = Some faults.NoFamily
-by_settings c faults.OwnAddress = Some faults.OwnAddress
-by_settings c faults.SegmentThere = Some faults.SegmentThere
-by_settings c faults.PoolFull = Some faults.PoolFull
-by_settings c faults.SegmentsFull = Some faults.SegmentsFull
-by_settings c faults.NoTunnel = Some faults.NoTunnel
+by_settings c why = Some why
 
 -- a law: whatever the tables hold, a fault that isn't theirs is the one by which the settings refuse the change
 abbrev pub TellsNothingOfTables : Type 0

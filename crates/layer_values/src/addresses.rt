@@ -112,6 +112,7 @@ impl Lines {
     }
 
     /// Puts a segment in hexadecimal, without leading zeros.
+    #[tactic(auto, unfolding(std::specs::Net::Text::hex))]
     fn put_segment(&mut self, segment: u16)
         requires room { length self.old + 4 ≤ 8192 }
         ensures text { self.new ≡ self.old ++ hex segment }

@@ -23,6 +23,7 @@ use Rattle.overlay_config.specs.Before as before
 use Rattle.overlay_config.specs.Migrate.{with_value}
 use Rattle.overlay_config.proofs.Rewrites.{get_here, get_other, is_equal, same_is, pass}
 use Rattle.overlay_config.proofs.Readings.{bind_then, ok_is, fits_ok, when_ok}
+use Rattle.overlay_config.proofs.Steps.{steps_of}
 use Rattle.overlay_config.proofs.Third.{segments_from, segments_third}
 use Rattle.overlay_config.proofs.SegmentKept.{gives, is_known, any_but, apart_back, required_from, known_with, only_known, known_only}
 
@@ -224,14 +225,7 @@ third_means ms s two e =
     let new : Place = top (version_3 ms) in
     let other : (k : List ℕ) → same_key k (codes "version") ≡ false → get_member k (version_3 ms) ≡ get_member k ms = λ k apart. get_other k (codes "version") (integer (pos 3)) ms apart in
     let none = unknown_gone (top_keys false) (codes "limits") ms refl (keys_of (top ms) Two two) in
-    bind_then (version_of (top ms)) _ s e (λ version version-is e0.
-    bind_then (given_pool_of (addresses_in (limits_of version (top ms))) (top ms)) _ s e0 (λ given given-is e1.
-    bind_then (limits_of version (top ms)) _ s e1 (λ limits limits-is e2.
-    bind_then (subtable (top ms) (codes "underlay")) _ s e2 (λ below below-is e3.
-    bind_then (underlay_of version limits below) _ s e3 (λ underlay underlay-is e4.
-    bind_then (required_items (top ms) (codes "port") limits.ports) _ s e4 (λ tables tables-is e5.
-    bind_then (each (λ earlier at. port_of at) (codes "port") [] tables) _ s e5 (λ ports ports-is e6.
-    bind_then (segments_of version limits (own underlay) (length ports) (top ms)) _ s e6 (λ segments segments-is e7.
+    steps_of ms s e (λ version version-is given given-is limits limits-is below below-is underlay underlay-is tables tables-is ports ports-is segments segments-is e0.
     let is : version ≡ Two = ok_is version Two (sym version-is ∙ two) in
     let underlay-two : underlay_of Two limits below ≡ Ok underlay = subst (λ (v : Version). underlay_of v limits below ≡ Ok underlay) is underlay-is in
     let segments-two : segments_of Two limits (own underlay) (length ports) (top ms) ≡ Ok segments =
@@ -248,4 +242,4 @@ third_means ms s two e =
     (gives (each (λ earlier at. port_of at) (codes "port") [] tables) _ ports s ports-is
     (gives (segments_of Three limits (own underlay) (length ports) new) _ segments s
     (segments_same Three limits (own underlay) (length ports) (version_3 ms) ∙ ap (segments_from Three limits (own underlay) (length ports)) (other (codes "segment") refl)
-    ∙ segments_third limits (own underlay) (length ports) (get_member (codes "segment") ms) segments (sym (segments_same Two limits (own underlay) (length ports) ms) ∙ segments-two)) e7)))))))))))))))
+    ∙ segments_third limits (own underlay) (length ports) (get_member (codes "segment") ms) segments (sym (segments_same Two limits (own underlay) (length ports) ms) ∙ segments-two)) e0))))))))

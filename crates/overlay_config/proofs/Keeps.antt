@@ -28,6 +28,7 @@ use Rattle.overlay_config.specs.Migrate.{without, migrated_segment, migrated_ite
 use Rattle.overlay_config.proofs.Rewrites.{get_without, get_here, get_other, get_gone, option_here, option_other}
 use Rattle.overlay_config.proofs.Readings.{bind_then, ok_is}
 use Rattle.overlay_config.proofs.SegmentKept.{gives, ok_not_err, place, required_from, known_with, known_option, known_fewer, segment_kept}
+use Rattle.overlay_config.proofs.Steps.{steps_of}
 use Rattle.overlay_config.proofs.Asked.{version_by, keys_of}
 
 -- ---- all segments
@@ -136,14 +137,7 @@ version_2_means : (ms : Members) (s : Settings) → version_of (top ms) ≡ Ok O
 unfolding settings_of
 version_2_means ms s one e =
     let new : Place = top (version_2 ms) in
-    bind_then (version_of (top ms)) _ s e (λ version version-is e0.
-    bind_then (given_pool_of (addresses_in (limits_of version (top ms))) (top ms)) _ s e0 (λ given given-is e1.
-    bind_then (limits_of version (top ms)) _ s e1 (λ limits limits-is el.
-    bind_then (subtable (top ms) (codes "underlay")) _ s el (λ below below-is e2.
-    bind_then (underlay_of version limits below) _ s e2 (λ underlay underlay-is e3.
-    bind_then (required_items (top ms) (codes "port") limits.ports) _ s e3 (λ tables tables-is e4.
-    bind_then (each (λ earlier at. port_of at) (codes "port") [] tables) _ s e4 (λ ports ports-is e5.
-    bind_then (segments_of version limits (own underlay) (length ports) (top ms)) _ s e5 (λ segments segments-is e6.
+    steps_of ms s e (λ version version-is given given-is limits limits-is below below-is underlay underlay-is tables tables-is ports ports-is segments segments-is e0.
     let is : version ≡ One = ok_is version One (sym version-is ∙ one) in
     let usual : limits ≡ usual_limits = ok_is limits usual_limits (sym (subst (λ v. limits_of v (top ms) ≡ Ok limits) is limits-is)) in
     let tables-usual : required_items (top ms) (codes "port") 16 ≡ Ok tables = subst (λ l. required_items (top ms) (codes "port") l.ports ≡ Ok tables) usual tables-is in
@@ -159,7 +153,7 @@ version_2_means ms s one e =
     (gives (underlay_of Two usual_limits below) _ underlay s (underlay_kept usual_limits below ∙ underlay-one)
     (gives (required_items new (codes "port") 16) _ tables s (ap (required_from (codes "port") 16) (top_key (codes "port") ms refl refl) ∙ tables-usual)
     (gives (each (λ earlier at. port_of at) (codes "port") [] tables) _ ports s ports-is
-    (gives (segments_of Two usual_limits (own underlay) (length ports) new) _ segments s (segments_kept usual_limits (own underlay) (length ports) ms segments segments-one) e6))))))))))))))
+    (gives (segments_of Two usual_limits (own underlay) (length ports) new) _ segments s (segments_kept usual_limits (own underlay) (length ports) ms segments segments-one) e0)))))))
 
 is_one_ok : (v : Meaning Version) → is_one v ≡ true → v ≡ Ok One
 is_one_ok (Ok One) e = refl

@@ -1,5 +1,6 @@
 mod Pairs
 mod Readings
+mod Steps
 mod Roomy
 mod Hops
 mod Numbers

@@ -45,6 +45,7 @@ use Rattle.overlay_config.specs.Limits.{addresses_in, usual_limits, limit_keys, 
 use Rattle.overlay_settings.specs.Rules.{IsWithin, EachBehind, IsKnown, IsEndpoint, IsIndividual, IsHop, AreHops, IsUnderlay, IsPort, IsMember, IsSegment, HasEntries, MeetsRules}
 use Rattle.overlay_config.proofs.Hops.{all_size, none_size, hops_are}
 use Rattle.overlay_config.proofs.Readings.{bind_then, ok_is, fits_ok, refuse_ok, range_meets, required_meets, optional_meets, required_range, defaulted_range, limited_items_ok, required_items_ok, Longer, from_none, each_meets, gathered_meets, listed_meets, some_is, unless_ok, when_ok}
+use Rattle.overlay_config.proofs.Steps.{steps_of}
 use Rattle.overlay_config.proofs.Tunnels.{addr_meets, AreTunnels, tunnel_meets, one_meets, tunnels_meet}
 
 -- ---- ports
@@ -187,30 +188,6 @@ known_meets earlier d longer e =
     let m = when_ok (nat_lt (length earlier) 16) (earlier ++ a.0 ∷ []) longer k.1 in
     record { last = a.0; is = sym m.1; meets = (o.0, o.1, k.0) }
 
-default_mtu : IsWithin 1280 65535 1550
-default_mtu = (lit≤ tt, lit≤ tt)
-
-default_ttl : IsWithin 1 255 64
-default_ttl = (lit≤ tt, lit≤ tt)
-
-usual_ports : IsWithin 1 255 16
-usual_ports = (lit≤ tt, lit≤ tt)
-
-usual_segments : IsWithin 1 4094 256
-usual_segments = (lit≤ tt, lit≤ tt)
-
-usual_flood : IsWithin 1 512 16
-usual_flood = (lit≤ tt, lit≤ tt)
-
-usual_hops : IsWithin 1 4096 64
-usual_hops = (lit≤ tt, lit≤ tt)
-
-usual_entries : IsWithin 1 131072 8192
-usual_entries = (lit≤ tt, lit≤ tt)
-
-usual_addresses : IsWithin 1 1048576 65536
-usual_addresses = (lit≤ tt, lit≤ tt)
-
 record AreLimits (l : Limits) : Type 0 where
   ports : IsWithin 1 255 l.ports
   segments : IsWithin 1 4094 l.segments
@@ -221,7 +198,15 @@ record AreLimits (l : Limits) : Type 0 where
   addresses : IsWithin 1 1048576 l.addresses
 
 usual_are : AreLimits usual_limits
-usual_are = record { ports = usual_ports; segments = usual_segments; flood = usual_flood; product = lit≤ tt; hops = usual_hops; entries = usual_entries; addresses = usual_addresses }
+usual_are = record {
+  ports = (lit≤ tt, lit≤ tt);
+  segments = (lit≤ tt, lit≤ tt);
+  flood = (lit≤ tt, lit≤ tt);
+  product = lit≤ tt;
+  hops = (lit≤ tt, lit≤ tt);
+  entries = (lit≤ tt, lit≤ tt);
+  addresses = (lit≤ tt, lit≤ tt);
+}
 
 limits_in_meet : (at : Place) (l : Limits) → limits_in at ≡ Ok l → AreLimits l
 unfolding limits_in
@@ -235,13 +220,13 @@ limits_in_meet at l e =
     bind_then (defaulted at (codes "addresses") (range 1 1048576) 65536) _ l e5 (λ addresses addresses-is e6.
     bind_then (refuse_if (nat_lt 1048576 (segments * flood)) (OverLimit (path at (codes "flood")))) _ l e6 (λ few few-is e7.
     subst AreLimits (ok_is _ l e7) (record {
-      ports = defaulted_range at (codes "ports") 1 255 16 ports usual_ports ports-is;
-      hops = defaulted_range at (codes "hops") 1 4096 64 hops usual_hops hops-is;
-      segments = defaulted_range at (codes "segments") 1 4094 256 segments usual_segments segments-is;
-      flood = defaulted_range at (codes "flood") 1 512 16 flood usual_flood flood-is;
+      ports = defaulted_range at (codes "ports") 1 255 16 ports usual_are.ports ports-is;
+      hops = defaulted_range at (codes "hops") 1 4096 64 hops usual_are.hops hops-is;
+      segments = defaulted_range at (codes "segments") 1 4094 256 segments usual_are.segments segments-is;
+      flood = defaulted_range at (codes "flood") 1 512 16 flood usual_are.flood flood-is;
       product = ltb-false 1048576 (segments * flood) (refuse_ok _ _ few few-is);
-      entries = defaulted_range at (codes "entries") 1 131072 8192 entries usual_entries entries-is;
-      addresses = defaulted_range at (codes "addresses") 1 1048576 65536 addresses usual_addresses addresses-is;
+      entries = defaulted_range at (codes "entries") 1 131072 8192 entries usual_are.entries entries-is;
+      addresses = defaulted_range at (codes "addresses") 1 1048576 65536 addresses usual_are.addresses addresses-is;
     })))))))))
 
 limits_meet : (version : Version) (at : Place) (l : Limits) → limits_of version at ≡ Ok l → AreLimits l
@@ -276,8 +261,8 @@ underlay_meets version limits at u are e =
         ip4 = o.0;
         ip6 = o.1;
         family = o.2;
-        mtu = defaulted_range at (codes "mtu") 1280 65535 1550 mtu default_mtu mtu-is;
-        ttl = defaulted_range at (codes "ttl") 1 255 64 ttl default_ttl ttl-is;
+        mtu = defaulted_range at (codes "mtu") 1280 65535 1550 mtu (lit≤ tt, lit≤ tt) mtu-is;
+        ttl = defaulted_range at (codes "ttl") 1 255 64 ttl (lit≤ tt, lit≤ tt) ttl-is;
         vxlan_port = p.0;
         geneve_port = p.1;
         ports_apart = p.2;
@@ -321,16 +306,15 @@ default_limit entries some = (omega (arith, some), omega arith)
 default_ageing : IsWithin 10 1000000 300
 default_ageing = (lit≤ tt, lit≤ tt)
 
--- the rules that say nothing of tunnels
-record AreLocal (entries ports : ℕ) (x : LocalRules) : Type 0 where
-  limit : IsWithin 1 entries x.limit
-  ageing : IsWithin 10 1000000 x.ageing
-  untagged : EachBehind (IsMember ports []) [] x.untagged
-  tagged : EachBehind (IsMember ports x.untagged) [] x.tagged
-
 -- the limit and the ageing of a segment of settings
 abbrev AreCommon : ℕ → CommonRules → Type 0
 AreCommon entries x = IsWithin 1 entries x.limit × IsWithin 10 1000000 x.ageing
+
+-- the rules that say nothing of tunnels
+record AreLocal (entries ports : ℕ) (x : LocalRules) : Type 0 where
+  common : AreCommon entries x.common
+  untagged : EachBehind (IsMember ports []) [] x.untagged
+  tagged : EachBehind (IsMember ports x.untagged) [] x.tagged
 
 common_meets : (all : Bool) (entries : ℕ) (some : 1 ≤ entries) (at : Place) (x : CommonRules) → common_of all (min 256 entries) (range 1 entries) (range 10 1000000) at ≡ Ok x → AreCommon entries x
 unfolding common_of
@@ -351,10 +335,8 @@ local_meets third entries ports some at x e =
     bind_then (common_of third (min 256 entries) (range 1 entries) (range 10 1000000) at) _ x e (λ common common-is e0.
     bind_then (members_of at (codes "untagged") ports []) _ x e0 (λ untagged untagged-is e1.
     bind_then (members_of at (codes "tagged") ports untagged) _ x e1 (λ tagged tagged-is e2.
-    let c = common_meets third entries some at common common-is in
     subst (AreLocal entries ports) (ok_is _ x e2) (record {
-      limit = c.0;
-      ageing = c.1;
+      common = common_meets third entries some at common common-is;
       untagged = members_meet at (codes "untagged") ports [] untagged untagged-is;
       tagged = members_meet at (codes "tagged") ports untagged tagged tagged-is;
     }))))
@@ -393,13 +375,13 @@ segment_meets version own limits ports some earlier at s e =
         tunnels = r.0.tunnels;
         flood_count = r.0.flood_count;
         flood = r.0.flood;
-        limit = r.1.limit.0;
-        ageing = r.1.ageing;
+        limit = r.1.common.0.0;
+        ageing = r.1.common.1;
         untagged = r.1.untagged;
         tagged = r.1.tagged;
         apart = refuse_ok _ _ apart apart-is;
       },
-      r.1.limit.1,
+      r.1.common.0.1,
     )))))
 
 -- ---- all
@@ -441,17 +423,9 @@ given_meets most at given e = optional_meets (IsWithin 1 most) (range 1 most) (r
 
 -- settings that are read keep to the rules
 pub settings_meet : (members : Members) (s : Settings) → settings_of members ≡ Ok s → MeetsRules s
-unfolding settings_of
 settings_meet members s e =
-    bind_then (version_of (top members)) _ s e (λ version version-is ev.
-    bind_then (given_pool_of (addresses_in (limits_of version (top members))) (top members)) _ s ev (λ given given-is e0.
-    bind_then (limits_of version (top members)) _ s e0 (λ limits limits-is el.
-    bind_then (subtable (top members) (codes "underlay")) _ s el (λ below below-is e1.
-    bind_then (underlay_of version limits below) _ s e1 (λ underlay underlay-is e2.
-    bind_then (required_items (top members) (codes "port") limits.ports) _ s e2 (λ tables tables-is e3.
-    bind_then (each (λ earlier at. port_of at) (codes "port") [] tables) _ s e3 (λ ports ports-is e4.
-    bind_then (segments_of version limits (own underlay) (length ports) (top members)) _ s e4 (λ segments segments-is e5.
-    bind_then (pool_for given segments) _ s e5 (λ pool pool-is e6.
+    steps_of members s e (λ version version-is given given-is limits limits-is below below-is underlay underlay-is tables tables-is ports ports-is segments segments-is e0.
+    bind_then (pool_for given segments) _ s e0 (λ pool pool-is e1.
     let are = limits_meet version (top members) limits limits-is in
     let u = underlay_meets version limits below underlay are underlay-is in
     let p = from_none IsPort (length tables) ports (each_meets IsPort (λ earlier at. port_of at) (codes "port") port_meets [] tables ports ports-is) in
@@ -459,7 +433,7 @@ settings_meet members s e =
     let q = segments_meet version limits are.entries.0 (own underlay) (length ports) (top members) segments segments-is in
     let below-most : IfSome given (IsWithin 1 limits.addresses) = subst (λ (m : Meaning Limits). IfSome given (IsWithin 1 (addresses_in m))) limits-is (given_meets _ (top members) given given-is) in
     let l = pool_meets limits.addresses given segments pool pool-is below-most (some_entries (own underlay) limits.flood (length ports) segments q.0.0 q.1, q.3) in
-    subst MeetsRules (ok_is _ s e6) (record {
+    subst MeetsRules (ok_is _ s e1) (record {
       underlay = u.0;
       port_count = subst (λ (l : Limits). IsWithin 1 l.ports (length ports)) u.1 (subst (IsWithin 1 limits.ports) (sym p.1) few);
       ports = p.0;
@@ -468,7 +442,7 @@ settings_meet members s e =
       entries = subst (λ (l : Limits). EachBehind (HasEntries l.entries) [] segments) u.1 q.2;
       pool = subst (λ (l : Limits). IsWithin 1 l.addresses pool) u.1 l.0;
       limits = l.1;
-    }))))))))))
+    })))
 
 pub texts_meet : (text : List ℕ) (s : Settings) → settings_in text ≡ Ok s → MeetsRules s
 texts_meet text s e = bind_then (document text) settings_of s e (λ members members-is e0. settings_meet members s e0)

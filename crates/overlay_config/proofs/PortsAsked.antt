@@ -4,22 +4,17 @@ use Rattle.std.proofs.Common.{◌≡◌, ℕ, codes, Bool, true, false, cond, �
 use Rattle.std.proofs.lemmas.Bool.{and_parts, leb-true, le-leb, false≢true}
 use Rattle.toml.specs.Data.{Data, Members, as_integer, get_member}
 use Rattle.underlay.specs.declared.limits.Limits.{Limits}
-use Rattle.config_text.specs.Fault.{Meaning}
 use Rattle.config_text.specs.Column.{in_range, range}
-use Rattle.config_text.specs.Table.{Place, top, path, default_value, defaulted, only, subtable, required_items}
+use Rattle.config_text.specs.Table.{Place, path, default_value, defaulted, only}
 use Rattle.overlay_settings.specs.Settings.{Settings}
-use Rattle.overlay_config.specs.declared.version.Version.{Version}
-use Rattle.overlay_config.specs.declared.version.Version.TheVariants.{One, Two, Three}
 use Rattle.overlay_config.specs.BeforePorts as before
-use Rattle.overlay_config.specs.BeforeFlood.{limit_keys, limits_in, limits_of, settings_of as flood_settings_of}
-use Rattle.overlay_config.specs.Limits.{addresses_in, usual_limits}
-use Rattle.overlay_config.specs.Underlay.{underlay_of}
-use Rattle.overlay_config.specs.Settings.{version_of, given_pool_of, settings_of}
-use Rattle.overlay_config.proofs.Readings.{bind_then, ok_is, when_ok}
+use Rattle.overlay_config.specs.BeforeFlood.{limit_keys, limits_in, settings_of as flood_settings_of}
+use Rattle.overlay_config.specs.Settings.{settings_of}
+use Rattle.overlay_config.proofs.Readings.{bind_then, when_ok}
 use Rattle.overlay_config.proofs.SegmentKept.{gives, only_known, known_only}
 use Rattle.overlay_config.proofs.Asked.{known_same, unknown_gone}
 use Rattle.overlay_config.proofs.Third.{fits_more}
-use Rattle.overlay_config.proofs.FloodAsked.{flood_same}
+use Rattle.overlay_config.proofs.FloodAsked.{flood_same, settings_kept}
 
 -- ---- more addresses
 
@@ -48,7 +43,7 @@ addresses_more p (Some d) x e = fits_more p (range 1 262144 d) (range 1 1048576 
 
 -- ---- the limits
 
-in_kept : (at : Place) (l : Limits) → before.limits_in at ≡ Ok l → (limits_in at ≡ Ok l) × (16 ≡ l.ports)
+in_kept : (at : Place) (l : Limits) → before.limits_in at ≡ Ok l → limits_in at ≡ Ok l
 unfolding before.limits_in limits_in
 in_kept at l e =
     bind_then (only at before.limit_keys) _ l e (λ known known-is e0.
@@ -61,48 +56,21 @@ in_kept at l e =
     let all-now =
     known_same [] (codes "ports") (codes "segments" ∷ codes "hops" ∷ codes "entries" ∷ codes "addresses" ∷ []) at.members no-ports
     ∙ known_same (codes "segments" ∷ []) (codes "hops") (codes "entries" ∷ codes "addresses" ∷ []) at.members no-hops
-    ∙ all in (
-      gives (only at limit_keys) _ known l (known_only at limit_keys known all-now)
-          (gives (defaulted at (codes "ports") (range 1 255) 16) _ 16 l (ap (default_value (path at (codes "ports")) (range 1 255) 16) no-ports)
-          (gives (defaulted at (codes "segments") (range 1 4094) 256) _ segments l segments-is
-          (gives (defaulted at (codes "hops") (range 1 4096) 64) _ 64 l (ap (default_value (path at (codes "hops")) (range 1 4096) 64) no-hops)
-          (gives (defaulted at (codes "entries") (range 1 131072) 8192) _ entries l entries-is
-          (gives (defaulted at (codes "addresses") (range 1 1048576) 65536) _ addresses l
-          (addresses_more (path at (codes "addresses")) (get_member (codes "addresses") at.members) addresses addresses-is) e3))))),
-      ap (λ (m : Limits). m.ports) (ok_is _ l e3),
-    )))))
-
-limits_kept : (v : Version) (at : Place) (l : Limits) → before.limits_of v at ≡ Ok l → (limits_of v at ≡ Ok l) × (16 ≡ l.ports)
-limits_kept One at l e = (e, ap (λ (m : Limits). m.ports) (ok_is usual_limits l e))
-limits_kept Two at l e = (e, ap (λ (m : Limits). m.ports) (ok_is usual_limits l e))
-limits_kept Three at l e =
-    bind_then (subtable at (codes "limits")) before.limits_in l e (λ table table-is e0.
-    let k = in_kept table l e0 in
-    (gives (subtable at (codes "limits")) limits_in table l table-is k.0, k.1))
+    ∙ all in
+    gives (only at limit_keys) _ known l (known_only at limit_keys known all-now)
+    (gives (defaulted at (codes "ports") (range 1 255) 16) _ 16 l (ap (default_value (path at (codes "ports")) (range 1 255) 16) no-ports)
+    (gives (defaulted at (codes "segments") (range 1 4094) 256) _ segments l segments-is
+    (gives (defaulted at (codes "hops") (range 1 4096) 64) _ 64 l (ap (default_value (path at (codes "hops")) (range 1 4096) 64) no-hops)
+    (gives (defaulted at (codes "entries") (range 1 131072) 8192) _ entries l entries-is
+    (gives (defaulted at (codes "addresses") (range 1 1048576) 65536) _ addresses l
+    (addresses_more (path at (codes "addresses")) (get_member (codes "addresses") at.members) addresses addresses-is) e3)))))))))
 
 -- ---- all settings
 
 -- what meant something before means the same
 until_flood : (ms : Members) (s : Settings) → before.settings_of ms ≡ Ok s → flood_settings_of ms ≡ Ok s
 unfolding before.settings_of flood_settings_of
-until_flood ms s e =
-    let at : Place = top ms in
-    bind_then (version_of at) _ s e (λ version version-is e0.
-    bind_then (given_pool_of (before.addresses_in (before.limits_of version at)) at) _ s e0 (λ given given-is e1.
-    bind_then (before.limits_of version at) _ s e1 (λ limits limits-is e2.
-    bind_then (subtable at (codes "underlay")) _ s e2 (λ below below-is e3.
-    bind_then (underlay_of version limits below) _ s e3 (λ underlay underlay-is e4.
-    bind_then (required_items at (codes "port") 16) _ s e4 (λ tables tables-is e5.
-    let k = limits_kept version at limits limits-is in
-    let given-now : given_pool_of (addresses_in (limits_of version at)) at ≡ Ok given =
-    ap (λ (m : Meaning Limits). given_pool_of (addresses_in m) at) k.0
-    ∙ sym (ap (λ (m : Meaning Limits). given_pool_of (before.addresses_in m) at) limits-is) ∙ given-is in
-    gives (version_of at) _ version s version-is
-    (gives (given_pool_of (addresses_in (limits_of version at)) at) _ given s given-now
-    (gives (limits_of version at) _ limits s k.0
-    (gives (subtable at (codes "underlay")) _ below s below-is
-    (gives (underlay_of version limits below) _ underlay s underlay-is
-    (gives (required_items at (codes "port") limits.ports) _ tables s (subst (λ (n : ℕ). required_items at (codes "port") n ≡ Ok tables) k.1 tables-is) e5)))))))))))
+until_flood = settings_kept before.limits_in limits_in before.addresses_in in_kept (λ l. refl)
 
 pub sixteen_same : (ms : Members) (s : Settings) → before.settings_of ms ≡ Ok s → settings_of ms ≡ Ok s
 sixteen_same ms s e = flood_same ms s (until_flood ms s e)

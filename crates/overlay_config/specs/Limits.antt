@@ -31,11 +31,15 @@ limits_in at = do
   few ← refuse_if (nat_lt 1048576 (segments * flood)) (OverLimit (path at (codes "flood")))
   Ok (record { ports = ports; segments = segments; flood = flood; hops = hops; entries = entries; addresses = addresses })
 
--- the limits in force, from what stands at the top; an absent table counts as empty
+-- the limits in force, from what stands at the top, where the table of them means this; an absent table counts as empty
+abbrev pub limits_by : (Place → Meaning Limits) → Version → Place → Meaning Limits
+limits_by table One top = Ok usual_limits
+limits_by table Two top = Ok usual_limits
+limits_by table Three top = subtable top (codes "limits") >>= table
+
+-- the limits in force
 abbrev pub limits_of : Version → Place → Meaning Limits
-limits_of One top = Ok usual_limits
-limits_of Two top = Ok usual_limits
-limits_of Three top = subtable top (codes "limits") >>= limits_in
+limits_of = limits_by limits_in
 
 -- the most addresses that the limits say, or the most that limits may say where they mean nothing
 abbrev pub addresses_in : Meaning Limits → ℕ

@@ -20,15 +20,7 @@ local_of third entries ports at = do
   common ← common_of third (min 256 entries) (range 1 entries) (range 10 1000000) at
   untagged ← members_of at (codes "untagged") ports []
   tagged ← members_of at (codes "tagged") ports untagged
-  Ok (record {
-    limit = common.limit;
-    ageing = common.ageing;
-    learning = common.learning;
-    peers = common.peers;
-    tags = common.tags;
-    untagged = untagged;
-    tagged = tagged;
-  })
+  Ok (record { common = common; untagged = untagged; tagged = tagged })
 
 -- the segment that goes by these, with its tunnels and flood list
 abbrev pub with_tunnels : ℕ → List SegmentTunnel → Entries → LocalRules → SegmentRule
@@ -36,11 +28,11 @@ with_tunnels vid tunnels flood local = record {
   vid = vid;
   tunnels = tunnels;
   flood = flood;
-  limit = local.limit;
-  ageing = local.ageing;
-  learning = local.learning;
-  peers = local.peers;
-  tags = local.tags;
+  limit = local.common.limit;
+  ageing = local.common.ageing;
+  learning = local.common.learning;
+  peers = local.common.peers;
+  tags = local.common.tags;
   untagged = local.untagged;
   tagged = local.tagged;
 }

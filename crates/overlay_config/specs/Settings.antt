@@ -56,12 +56,12 @@ version_of at = do
 abbrev pub given_pool_of : ℕ → Place → Meaning (Option ℕ)
 given_pool_of most at = optional at (codes "pool") (range 1 most)
 
--- what the table of a text of settings means
-unfoldable pub settings_of : Members → Meaning Settings
-settings_of members = do
+-- what the table of a text of settings means, by the limits in force and the most addresses of these
+abbrev pub settings_by : (Version → Place → Meaning Limits) → (Meaning Limits → ℕ) → Members → Meaning Settings
+settings_by in_force most members = do
   version ← version_of (top members)
-  given ← given_pool_of (addresses_in (limits_of version (top members))) (top members)
-  limits ← limits_of version (top members)
+  given ← given_pool_of (most (in_force version (top members))) (top members)
+  limits ← in_force version (top members)
   below ← subtable (top members) (codes "underlay")
   underlay ← underlay_of version limits below
   tables ← required_items (top members) (codes "port") limits.ports
@@ -69,6 +69,10 @@ settings_of members = do
   segments ← segments_of version limits (own underlay) (length ports) (top members)
   pool ← pool_for given segments
   Ok (record { underlay = underlay; ports = ports; segments = segments; pool = pool })
+
+-- what the table of a text of settings means
+unfoldable pub settings_of : Members → Meaning Settings
+settings_of members = settings_by limits_of addresses_in members
 
 -- the settings that a text means, or its first fault
 abbrev pub settings_in : List ℕ → Meaning Settings

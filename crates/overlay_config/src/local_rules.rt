@@ -3,13 +3,13 @@ ghost use Rattle.std.specs.Prelude.{◌≡◌, ◌≤◌, length, min};
 ghost use Rattle.config_text.specs.Reader.{place_of};
 ghost use Rattle.overlay_config.specs.LocalRules.{local_of, members_of};
 
-use crate::common_rules::{USUAL_LIMIT, read_common};
+use crate::common_rules::{CommonRules, USUAL_LIMIT, read_common};
 use crate::members::{MemberList, MemberPorts};
 use config_text::{Reader, SettingsFault, U32Range, gather};
 use flood_lists::FloodList;
 use frame_view::Vid;
 use overlay_settings::SegmentRule;
-use underlay::{PeerRule, TagRule, Tunnels};
+use underlay::Tunnels;
 use vlan_ports::PortList;
 
 const AGEING: U32Range = U32Range {
@@ -20,11 +20,7 @@ const AGEING: U32Range = U32Range {
 /// What a segment goes by at this endpoint, whatever its tunnels are.
 #[derive(Drop)]
 pub(crate) struct LocalRules {
-    limit: u32,
-    ageing: u32,
-    learning: bool,
-    peers: PeerRule,
-    tags: TagRule,
+    common: CommonRules,
     untagged: PortList,
     tagged: PortList,
 }
@@ -41,11 +37,11 @@ impl LocalRules {
             vid,
             tunnels,
             flood,
-            limit: self.limit,
-            ageing: self.ageing,
-            learning: self.learning,
-            peers: self.peers,
-            tags: self.tags,
+            limit: self.common.limit,
+            ageing: self.common.ageing,
+            learning: self.common.learning,
+            peers: self.common.peers,
+            tags: self.common.tags,
             untagged: self.untagged,
             tagged: self.tagged,
         }
@@ -91,11 +87,7 @@ pub(crate) fn read_local(
     let untagged = read_members(at, "untagged", ports, &[])?;
     let tagged = read_members(at, "tagged", ports, untagged.as_slice())?;
     Ok(LocalRules {
-        limit: common.limit,
-        ageing: common.ageing,
-        learning: common.learning,
-        peers: common.peers,
-        tags: common.tags,
+        common,
         untagged,
         tagged,
     })

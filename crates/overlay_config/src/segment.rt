@@ -1,8 +1,6 @@
 //! The table of a segment.
-ghost use Rattle.std.specs.Prelude.{◌≡◌, ◌≤◌, [], length, IsTrue};
-ghost use Rattle.config_text.specs.Reader.{place_of};
-ghost use Rattle.overlay_config.specs.Flood.{is_roomy};
-ghost use Rattle.overlay_config.specs.Segment.{is_alike, is_taken, tables_of, rules_of, segment_of};
+ghost use Rattle.std.specs.Prelude.{◌≡◌};
+ghost use Rattle.overlay_config.specs.Segment.{is_alike, is_taken, segment_of};
 
 use crate::flood::room_for;
 use crate::local_rules::{LocalRules, read_local};
@@ -31,50 +29,6 @@ fn is_taken(segments: &[SegmentRule], vid: Vid, tunnels: &TunnelRules) -> bool
         .any(|segment| is_alike(segment, vid, tunnels))
 }
 
-/// The keys behind `vid`: the tunnels with the flood list, and the rules that say nothing of them.
-#[tactic(auto, unfolding(crate::specs::Segment::rules_of))]
-fn read_rules(
-    version: Version,
-    own: Own,
-    limits: Limits,
-    ports: u8,
-    at: &Reader,
-    room: &mut Option<Room>,
-) -> Result<(TunnelRules, LocalRules), SettingsFault>
-    requires short { length (place_of at.now).prefix ≤ 13 }
-    requires room { IsTrue (is_roomy limits.flood [] room.old) }
-    ensures { result ≡ rules_of version own limits ports (place_of at.now) }
-{
-    match version {
-        Version::One => {
-            let tunnel = read_tunnel(at)?;
-            let local = read_local(at, false, limits.entries, ports)?;
-            let flood = read_flood(at, own, limits.flood, tunnel.kind, room)?;
-            Ok((TunnelRules::one(tunnel, flood), local))
-        }
-        Version::Two => read_tables(own, false, limits, ports, at, room),
-        Version::Three => read_tables(own, true, limits, ports, at, room),
-    }
-}
-
-/// The keys behind `vid` where each tunnel has a table of its own, in version 3 or 2.
-fn read_tables(
-    own: Own,
-    third: bool,
-    limits: Limits,
-    ports: u8,
-    at: &Reader,
-    room: &mut Option<Room>,
-) -> Result<(TunnelRules, LocalRules), SettingsFault>
-    requires short { length (place_of at.now).prefix ≤ 13 }
-    requires room { IsTrue (is_roomy limits.flood [] room.old) }
-    ensures { result ≡ tables_of third own limits ports (place_of at.now) }
-{
-    let tunnels = read_tunnels(at, own, limits.flood, room)?;
-    let local = read_local(at, third, limits.entries, ports)?;
-    Ok((tunnels, local))
-}
-
 /// The table of a segment, beside the endpoint's own addresses, the limits in force and the number of the ports.
 #[derive(Clone, Copy)]
 pub(crate) struct SegmentRow {
@@ -84,6 +38,52 @@ pub(crate) struct SegmentRow {
     pub(crate) own: Own,
     pub(crate) limits: Limits,
     pub(crate) ports: u8,
+}
+
+impl SegmentRow {
+    ghost use Rattle.std.specs.Prelude.{◌≡◌, ◌≤◌, [], length, IsTrue};
+    ghost use Rattle.config_text.specs.Reader.{place_of};
+    ghost use Rattle.overlay_config.specs.Flood.{is_roomy};
+    ghost use Rattle.overlay_config.specs.Segment.{rules_of, tables_of};
+
+    /// The keys behind `vid`: the tunnels with the flood list, and the rules that say nothing of them.
+    #[tactic(auto, unfolding(crate::specs::Segment::rules_of))]
+    fn read_rules(
+        &self,
+        at: &Reader,
+        room: &mut Option<Room>,
+    ) -> Result<(TunnelRules, LocalRules), SettingsFault>
+        requires short { length (place_of at.now).prefix ≤ 13 }
+        requires room { IsTrue (is_roomy self.now.limits.flood [] room.old) }
+        ensures { result ≡ rules_of self.now.version self.now.own self.now.limits self.now.ports (place_of at.now) }
+    {
+        match self.version {
+            Version::One => {
+                let tunnel = read_tunnel(at)?;
+                let local = read_local(at, false, self.limits.entries, self.ports)?;
+                let flood = read_flood(at, self.own, self.limits.flood, tunnel.kind, room)?;
+                Ok((TunnelRules::one(tunnel, flood), local))
+            }
+            Version::Two => self.read_tables(false, at, room),
+            Version::Three => self.read_tables(true, at, room),
+        }
+    }
+
+    /// The keys behind `vid` where each tunnel has a table of its own, in version 3 or 2.
+    fn read_tables(
+        &self,
+        third: bool,
+        at: &Reader,
+        room: &mut Option<Room>,
+    ) -> Result<(TunnelRules, LocalRules), SettingsFault>
+        requires short { length (place_of at.now).prefix ≤ 13 }
+        requires room { IsTrue (is_roomy self.now.limits.flood [] room.old) }
+        ensures { result ≡ tables_of third self.now.own self.now.limits self.now.ports (place_of at.now) }
+    {
+        let tunnels = read_tunnels(at, self.own, self.limits.flood, room)?;
+        let local = read_local(at, third, self.limits.entries, self.ports)?;
+        Ok((tunnels, local))
+    }
 }
 
 impl Row for SegmentRow {
@@ -99,14 +99,7 @@ impl Row for SegmentRow {
         at.only(self.version.segment_keys())?;
         let vid = at.required("vid", &VidNumber)?;
         let mut room = room_for(self.alloc, self.limits.flood)?;
-        let (tunnels, local) = read_rules(
-            self.version,
-            self.own,
-            self.limits,
-            self.ports,
-            at,
-            &mut room,
-        )?;
+        let (tunnels, local) = self.read_rules(at, &mut room)?;
         if is_taken(earlier, vid, &tunnels) {
             return Err(SettingsFault::TwoSegments(Key::numbered(
                 "segment",

@@ -14,38 +14,31 @@ pub(crate) enum Version {
     Three,
 }
 
-const UNDERLAY_KEYS: [&str; 13] = [
-    "mac",
-    "next_hop",
-    "ip4",
-    "ip6",
-    "mtu",
-    "ttl",
-    "vxlan_port",
-    "geneve_port",
-    "sum4",
-    "sum6",
-    "zero6",
-    "known",
-    "hop",
-];
+/// The keys of the underlay's table; one more stands before the last two, where it is given.
+macro_rules! underlay_keys {
+    ($($added:literal)?) => {
+        [
+            "mac",
+            "next_hop",
+            "ip4",
+            "ip6",
+            "mtu",
+            "ttl",
+            "vxlan_port",
+            "geneve_port",
+            "sum4",
+            "sum6",
+            "zero6",
+            $($added,)?
+            "known",
+            "hop",
+        ]
+    };
+}
 
-const UNDERLAY_KEYS_THREE: [&str; 14] = [
-    "mac",
-    "next_hop",
-    "ip4",
-    "ip6",
-    "mtu",
-    "ttl",
-    "vxlan_port",
-    "geneve_port",
-    "sum4",
-    "sum6",
-    "zero6",
-    "partial",
-    "known",
-    "hop",
-];
+const UNDERLAY_KEYS: [&str; 13] = underlay_keys!();
+
+const UNDERLAY_KEYS_THREE: [&str; 14] = underlay_keys!("partial");
 
 const SEGMENT_KEYS_ONE: [&str; 11] = [
     "vid", "vni", "tunnel", "limit", "ageing", "learn", "peers", "tags", "untagged", "tagged",

@@ -10,7 +10,7 @@ use Rattle.packet_layers.specs.declared.kind.Stop.TheVariants.{At}
 use Rattle.underlay.specs.Overlay.{Overlay}
 use Rattle.decapsulate.specs.Arrival.{arrival}
 use Rattle.packet_layers.specs.declared.kind.HeadKind.{HeadKind}
-use Rattle.packet_layers.specs.declared.kind.HeadKind.TheVariants.{Ether, Tag, Kind, Ip4, Ip6, Udp, Vxlan, Geneve}
+use Rattle.packet_layers.specs.declared.kind.HeadKind.TheVariants.{Vxlan, Geneve}
 
 -- octets are those of a text from a place on
 abbrev pub StandsAt : List ℕ → ℕ → List ℕ → Type 0
@@ -29,14 +29,9 @@ is_of_layers reason = is_within Runt Runt reason || is_within NotIp BadIpSum rea
 
 -- a head of a tunnel
 abbrev pub is_tunnel : HeadKind → Bool
-is_tunnel Ether = false
-is_tunnel Tag = false
-is_tunnel Kind = false
-is_tunnel Ip4 = false
-is_tunnel Ip6 = false
-is_tunnel Udp = false
 is_tunnel Vxlan = true
 is_tunnel Geneve = true
+is_tunnel _ = false
 
 -- no tunnel header is taken off
 abbrev pub HasNoTunnel : Apart → Type 0

@@ -1,10 +1,11 @@
 //! What texts mean.
 use crate::tests::change_texts::meanings;
 use crate::tests::settings_texts::{
-    first_version, one_tunnel, one_tunnel_before, second_version, third_version,
+    Meant, first_version, one_tunnel, one_tunnel_before, second_version, third_version,
 };
 use overlay_config::{changes_of, migrate, settings_of};
 use std::alloc::Global;
+use std::process::Abort;
 use std::test::Fail;
 
 /// What settings mean, field by field.
@@ -23,11 +24,9 @@ fn migrated_meaning(alloc: Global, text: &[u8]) -> Result<String, Fail> {
     settings_meaning(alloc, once.as_slice())
 }
 
-/// As they are, and migrated.
-#[test]
-fn settings_of_version_1_are_read_field_by_field(rt: HostRuntime) -> Result<(), Fail> {
-    let alloc = rt.alloc();
-    for (text, wanted) in &first_version(alloc)? {
+/// Checks what settings mean as they are, and migrated.
+fn check_meanings(rt: &impl Abort, alloc: Global, settings: &[Meant]) -> Result<(), Fail> {
+    for (text, wanted) in settings {
         let have = settings_meaning(alloc, text.as_bytes())?;
         assert_eq!(rt; have.as_str(), wanted.as_str());
         let migrated = migrated_meaning(alloc, text.as_bytes())?;
@@ -37,21 +36,21 @@ fn settings_of_version_1_are_read_field_by_field(rt: HostRuntime) -> Result<(), 
 }
 
 #[test]
+fn settings_of_version_1_are_read_field_by_field(rt: HostRuntime) -> Result<(), Fail> {
+    let alloc = rt.alloc();
+    check_meanings(&rt, alloc, &first_version(alloc)?)
+}
+
+#[test]
 fn settings_of_version_2_are_read_field_by_field(rt: HostRuntime) -> Result<(), Fail> {
     let alloc = rt.alloc();
-    let (text, wanted) = second_version(alloc)?;
-    let have = settings_meaning(alloc, text.as_bytes())?;
-    assert_eq!(rt; have.as_str(), wanted.as_str());
-    Ok(())
+    check_meanings(&rt, alloc, &[second_version(alloc)?])
 }
 
 #[test]
 fn settings_of_version_3_are_read_field_by_field(rt: HostRuntime) -> Result<(), Fail> {
     let alloc = rt.alloc();
-    let (text, wanted) = third_version(alloc)?;
-    let have = settings_meaning(alloc, text.as_bytes())?;
-    assert_eq!(rt; have.as_str(), wanted.as_str());
-    Ok(())
+    check_meanings(&rt, alloc, &[third_version(alloc)?])
 }
 
 #[test]

@@ -1,12 +1,11 @@
-use Rattle.std.proofs.Common.{◌≤◌, List, sym, subst, length, IfOk}
-use Rattle.frame_view.specs.Tag.{IsVid}
+use Rattle.std.proofs.Common.{List, sym, subst}
 use Rattle.filter_db.specs.declared.place.Place.{Place}
 use Rattle.endpoint_state.specs.Held.{settings_of}
 use Rattle.endpoint_state.specs.State.{aged}
 use Rattle.endpoint_core.specs.Arrival.{came_by}
 use Rattle.endpoint_core.specs.Course.{CanLeave}
 use Rattle.endpoint_core.specs.Kept.{Kept, state_of}
-use Rattle.endpoint_core.proofs.FewOutlets.{few_places}
+use Rattle.endpoint_core.proofs.FewOutlets.{few_slice}
 use Rattle.endpoint_core.proofs.endpoint.Endpoint.foresee_packet.Goals as goal
 
 pub of-requires-clause-leave : goal.of-requires-clause-leave
@@ -19,6 +18,4 @@ pub of-requires-clause-few : goal.of-requires-clause-few
 of-requires-clause-few c =
     let told = c.course_of_packet-course in
     let bridges = (state_of c.args.self.now).bridges in
-    let S = bridges.settings in
-    subst (λ (ps : List Place). IfOk told.result (λ x. IsVid x.vid → length ps ≤ 32)) (sym c.as_slice.ensures.value)
-    (few_places S told.result told.new.places.items (came_by S.overlay c.args.original c.args.octets.now) c.args.now (aged c.args.now bridges) c.requires.few told.ensures.came told.ensures.answer)
+    few_slice bridges.settings told.result told.new.places.items c.as_slice.result.now (came_by bridges.settings.overlay c.args.original c.args.octets.now) c.args.now (aged c.args.now bridges) c.requires.few told.ensures.came told.ensures.answer c.as_slice.ensures.value

@@ -1,41 +1,11 @@
 -- Records on one clock, in front and behind.
 use Rattle.std.proofs.Common.{◌≡◌, ℕ, ◌+◌, ◌<◌, ◌≤◌, max, Bool, true, false, nat_le, nat_lt, List, [], ◌∷◌, ◌++◌, length, refl, sym, ap, ◌∙◌, subst, arith, append_assoc, length-append}
 use Rattle.std.proofs.lemmas.List.{append-nil}
-use Rattle.std.proofs.lemmas.Bool.{leb-false, leb-true, ltb-false, ltb-true}
+use Rattle.std.proofs.lemmas.Bool.{le-leb, le-ltb, lt-leb, lt-ltb}
 use Rattle.pcap_io.specs.Record.{Record}
 use Rattle.capture_compare.specs.Clocked.{AreBefore, AreUpTo, Seen, before, latest, latest_behind, on_clock, seen_at, sent_by, timed, up_to}
 use Rattle.capture_compare.specs.Compared.{AllHadRoom, has_room_for}
 use Rattle.carried_key.specs.declared.key.Manner.{Manner}
-
--- ---- tests
-
-lt-true : (m n : ℕ) → m < n → nat_lt m n ≡ true
-lt-true m n l = on (nat_lt m n) refl
-  where
-    on : (q : Bool) → nat_lt m n ≡ q → nat_lt m n ≡ true
-    on true g = g
-    on false g = absurd (omega (arith, l, ltb-false m n g))
-
-lt-false : (m n : ℕ) → n ≤ m → nat_lt m n ≡ false
-lt-false m n l = on (nat_lt m n) refl
-  where
-    on : (q : Bool) → nat_lt m n ≡ q → nat_lt m n ≡ false
-    on false g = g
-    on true g = absurd (omega (arith, l, ltb-true m n g))
-
-le-true : (m n : ℕ) → m ≤ n → nat_le m n ≡ true
-le-true m n l = on (nat_le m n) refl
-  where
-    on : (q : Bool) → nat_le m n ≡ q → nat_le m n ≡ true
-    on true g = g
-    on false g = absurd (omega (arith, l, leb-false m n g))
-
-le-false : (m n : ℕ) → n < m → nat_le m n ≡ false
-le-false m n l = on (nat_le m n) refl
-  where
-    on : (q : Bool) → nat_le m n ≡ q → nat_le m n ≡ false
-    on false g = g
-    on true g = absurd (omega (arith, l, leb-true m n g))
 
 -- ---- a clock
 
@@ -77,7 +47,7 @@ StartsBehind moment (r ∷ rs) = moment < r.moment
 
 before-none : (m : ℕ) (ys : List Seen) → StartsAt m ys → before m ys ≡ []
 before-none m [] h = refl
-before-none m (y ∷ ys) h = rw (lt-false y.moment m h) refl
+before-none m (y ∷ ys) h = rw (le-ltb y.moment m h) refl
 
 pub before-more : (m : ℕ) (xs ys : List Seen) → StartsAt m ys → before m (xs ++ ys) ≡ before m xs
 before-more m [] ys h = before-none m ys h
@@ -89,22 +59,22 @@ before-more m (x ∷ xs) ys h = by (nat_lt x.moment m) refl (before-more m xs ys
 
 before-all : (m : ℕ) (xs : List Seen) → AreBefore m xs → before m xs ≡ xs
 before-all m [] h = refl
-before-all m (x ∷ xs) h = rw (lt-true x.moment m h.0) (ap (λ (t : List Seen). x ∷ t) (before-all m xs h.1))
+before-all m (x ∷ xs) h = rw (lt-ltb x.moment m h.0) (ap (λ (t : List Seen). x ∷ t) (before-all m xs h.1))
 
 pub before-front : (m : ℕ) (xs ys : List Seen) → AreBefore m xs → StartsAt m ys → before m (xs ++ ys) ≡ xs
 before-front m xs ys h g = before-more m xs ys g ∙ before-all m xs h
 
 pub before-zero : (xs : List Seen) → before 0 xs ≡ []
 before-zero [] = refl
-before-zero (x ∷ xs) = rw (lt-false x.moment 0 (omega arith)) refl
+before-zero (x ∷ xs) = rw (le-ltb x.moment 0 (omega arith)) refl
 
 up-to-none : (m : ℕ) (ys : List Seen) → StartsBehind m ys → up_to m ys ≡ []
 up-to-none m [] h = refl
-up-to-none m (y ∷ ys) h = rw (le-false y.moment m h) refl
+up-to-none m (y ∷ ys) h = rw (lt-leb y.moment m h) refl
 
 pub up-to-front : (m : ℕ) (xs ys : List Seen) → AreUpTo m xs → StartsBehind m ys → up_to m (xs ++ ys) ≡ xs
 up-to-front m [] ys h g = up-to-none m ys g
-up-to-front m (x ∷ xs) ys h g = rw (le-true x.moment m h.0) (ap (λ (t : List Seen). x ∷ t) (up-to-front m xs ys h.1 g))
+up-to-front m (x ∷ xs) ys h g = rw (le-leb x.moment m h.0) (ap (λ (t : List Seen). x ∷ t) (up-to-front m xs ys h.1 g))
 
 pub before-later : (m n : ℕ) (xs : List Seen) → m ≤ n → AreBefore m xs → AreBefore n xs
 before-later m n [] le h = tt

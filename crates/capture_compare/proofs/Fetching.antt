@@ -1,5 +1,5 @@
 -- The records of one capture, fetched one after another.
-use Rattle.std.proofs.Common.{◌≡◌, ◌≢◌, ◌∙◌, refl, sym, ap, subst, ℕ, ◌+◌, ◌≤◌, max, List, [], ◌∷◌, drop, length, length-append, arith, Option, Some, None, IfSome, Result, Ok, Err}
+use Rattle.std.proofs.Common.{◌≡◌, ◌≢◌, ◌∙◌, refl, sym, ap, subst, ℕ, ◌+◌, ◌≤◌, max, List, [], ◌∷◌, length, length-append, arith, Option, Some, None, Result, Ok, Err}
 use Rattle.pcap_io.specs.Capture.{opened, opened_by}
 use Rattle.pcap_io.specs.Header.{style_of}
 use Rattle.pcap_io.specs.Next.{End, Whole, Cut, Faulty}
@@ -12,13 +12,14 @@ use Rattle.pcap_io.specs.declared.record.RecordFault.TheVariants as record_
 use Rattle.pcap_io.specs.declared.style.Style.{Style}
 use Rattle.pcap_stream.specs.Fault.{capture_fault, record_fault}
 use Rattle.pcap_stream.specs.InTurn.{IsReading, IsWhole}
-use Rattle.pcap_stream.specs.Source.{Standing, Stream, New, Open, Ended, Failed, IsFilled, IsOpened, ReadsHeader, after_end, after_header, answer, lent, most_left}
+use Rattle.pcap_stream.specs.Source.{Stream, New, IsFilled, IsOpened, ReadsHeader, after_end, answer, lent, most_left}
 use Rattle.pcap_stream.specs.declared.fault.SourceFault.{SourceFault}
 use Rattle.pcap_stream.specs.declared.fault.SourceFault.TheVariants as source
 use Rattle.pcap_stream.proofs.Runs.{begins, ends, one_more}
+use Rattle.pcap_stream.proofs.Refusals.{faulty_end, is_refused, lends_none, no_answer, told_style}
 use Rattle.capture_compare.specs.Clocked.{latest, on_clock}
 use Rattle.capture_compare.specs.Compared.{fault_behind, fault_in, fault_of, records_in, records_of}
-use Rattle.capture_compare.specs.Turns.{HasLent, IsDone, StopsBehind, Waits, source_fault}
+use Rattle.capture_compare.specs.Turns.{HasLent, IsDone, IsItsFault, StopsBehind, Waits, source_fault}
 use Rattle.capture_compare.specs.declared.fault.CompareFault.{CompareFault}
 use Rattle.capture_compare.specs.declared.fault.CompareFault.TheVariants as faults
 use Rattle.capture_compare.specs.declared.fault.Side.{Side}
@@ -33,27 +34,6 @@ has_begun old new count none opened told begun less = record {
   spent = omega (arith, less);
   begun = begun;
 }
-
-no_answer : (fault : SourceFault) → ◌≡◌ {A = Result (Unit {0}) SourceFault} (Ok tt) (Err fault) → ⊥
-no_answer fault e = cc
-
--- what one read that was refused
-record IsRefused (fault : SourceFault) (header : Result Style CaptureFault) : Type 0 where
-  pub own : CaptureFault
-  pub header_is : header ≡ Err own
-  pub fault_is : fault ≡ capture_fault own
-
-is_refused : (fault : SourceFault) (standing : Standing) (header : Result Style CaptureFault) → standing ≡ after_header header → Err fault ≡ answer standing → IsRefused fault header
-is_refused fault standing (Ok style) e told = absurd (no_answer fault (sym (told ∙ ap answer e)))
-is_refused fault standing (Err own) e told = record { own = own; header_is = refl; fault_is = same (told ∙ ap answer e) }
-  where
-    same : ◌≡◌ {A = Result (Unit {0}) SourceFault} (Err fault) (Err (capture_fault own)) → fault ≡ capture_fault own
-    same e = cc
-
-told_style : (a b : Option (List ℕ)) (text : List ℕ) (header : Result Style CaptureFault) → a ≡ Some text
-    → IfSome a (λ text. (header ≡ style_of text) × (b ≡ Some (drop 24 text))) → header ≡ style_of text
-told_style None b text header is h = absurd cc
-told_style (Some t) b text header is h = let same : t ≡ text = cc in h.0 ∙ ap style_of same
 
 not_opened : (side : Side) (text : List ℕ) (own : CaptureFault) → style_of text ≡ Err own → (records_in text ≡ []) × (fault_in side text ≡ Some (faults.Header side own))
 not_opened side text own e =
@@ -112,23 +92,6 @@ has_all side start old new rs count so_far filled told none = record { all = λ 
 
 -- ---- a fault
 
-lends_none : (s : Standing) (fault : SourceFault) → Err fault ≡ answer s → lent s ≡ None
-lends_none New fault is = absurd cc
-lends_none (Open style last) fault is = absurd cc
-lends_none (Ended is_cut) fault is = refl
-lends_none (Failed other) fault is = refl
-
--- an end with a fault is that of a record
-record Ends (end : End) (fault : SourceFault) : Type 0 where
-  pub own : RecordFault
-  pub end_is : end ≡ Faulty own
-  pub fault_is : fault ≡ record_fault own
-
-faulty_end : (end : End) (fault : SourceFault) → Err fault ≡ answer (after_end end) → Ends end fault
-faulty_end Whole fault is = absurd cc
-faulty_end Cut fault is = absurd cc
-faulty_end (Faulty own) fault is = record { own = own; end_is = refl; fault_is = cc }
-
 -- a record that isn't read, behind some
 faulty : (side : Side) (text : List ℕ) (rs : List Record) (own : RecordFault) (n : ℕ) → n ≡ length rs + 1 → opened text ≡ Ok (record { records = rs; end = Faulty own })
     → (records_in text ≡ rs) × (fault_in side text ≡ Some (faults.Record side n own))
@@ -170,27 +133,29 @@ not_header record_.TooLarge capture.BadLink e = cc
 not_header record_.BadFraction capture.NotPcap e = cc
 not_header record_.BadFraction capture.BadLink e = cc
 
+-- a fault that is just one of a record
+by_record : (side : Side) (start old new : Stream) (rs : List Record) (count : ℕ) (fault : SourceFault) (own : RecordFault) → fault ≢ source.Read → ((o : RecordFault) → fault ≡ record_fault o → o ≡ own)
+    → HasLent start old rs count → IsFilled {T = Unit {0}} old new (Err fault) → Err fault ≡ answer new.standing → IsItsFault side start rs (faults.Record side (count + 1) own)
+by_record side start old new rs count fault own other only so_far filled told = record {
+  all = λ text e.
+      let so = ends_so text rs old new fault other (so_far.reading text e) filled told in
+      faulty side text rs own (count + 1) (ap (λ (n : ℕ). n + 1) so_far.count_is) (so.is ∙ ap (λ (f : RecordFault). Ok (record { records = rs; end = Faulty f })) (only so.own so.fault_is));
+}
+
+-- a record has no fault of a header
+no_header : (side : Side) (start old new : Stream) (rs : List Record) (count : ℕ) (own : CaptureFault) (fault : CompareFault) → capture_fault own ≢ source.Read → HasLent start old rs count
+    → IsFilled {T = Unit {0}} old new (Err (capture_fault own)) → Err (capture_fault own) ≡ answer new.standing → IsItsFault side start rs fault
+no_header side start old new rs count own fault other so_far filled told = record {
+  all = λ text e. let so = ends_so text rs old new (capture_fault own) other (so_far.reading text e) filled told in absurd (not_header so.own own so.fault_is);
+}
+
 pub has_failed : (side : Side) (start old new : Stream) (rs : List Record) (count : ℕ) (fault : SourceFault) → HasLent start old rs count → IsFilled {T = Unit {0}} old new (Err fault) → Err fault ≡ answer new.standing
     → StopsBehind side start rs (source_fault side (count + 1) fault)
 has_failed side start old new rs count source.Read so_far filled told =
     (refl, record { all = λ text e. let reading = so_far.reading text e in ((records reading.style reading.rest).records, ap (λ (r : Result Reading CaptureFault). records_of r) reading.records) })
-has_failed side start old new rs count source.NotPcap so_far filled told =
-    (refl, record { all = λ text e. let so = ends_so text rs old new source.NotPcap (λ e. absurd cc) (so_far.reading text e) filled told in absurd (not_header so.own capture.NotPcap so.fault_is) })
-has_failed side start old new rs count source.BadLink so_far filled told =
-    (refl, record { all = λ text e. let so = ends_so text rs old new source.BadLink (λ e. absurd cc) (so_far.reading text e) filled told in absurd (not_header so.own capture.BadLink so.fault_is) })
-has_failed side start old new rs count source.TooLarge so_far filled told = (
-  refl,
-  record {
-    all = λ text e.
-        let so = ends_so text rs old new source.TooLarge (λ e. absurd cc) (so_far.reading text e) filled told in
-        faulty side text rs record_.TooLarge (count + 1) (ap (λ (n : ℕ). n + 1) so_far.count_is) (so.is ∙ ap (λ (f : RecordFault). Ok (record { records = rs; end = Faulty f })) (own_large so.own so.fault_is));
-  },
-)
-has_failed side start old new rs count source.BadFraction so_far filled told = (
-  refl,
-  record {
-    all = λ text e.
-        let so = ends_so text rs old new source.BadFraction (λ e. absurd cc) (so_far.reading text e) filled told in
-        faulty side text rs record_.BadFraction (count + 1) (ap (λ (n : ℕ). n + 1) so_far.count_is) (so.is ∙ ap (λ (f : RecordFault). Ok (record { records = rs; end = Faulty f })) (own_fraction so.own so.fault_is));
-  },
-)
+has_failed side start old new rs count source.NotPcap so_far filled told = (refl, no_header side start old new rs count capture.NotPcap _ (λ e. absurd cc) so_far filled told)
+has_failed side start old new rs count source.BadLink so_far filled told = (refl, no_header side start old new rs count capture.BadLink _ (λ e. absurd cc) so_far filled told)
+has_failed side start old new rs count source.TooLarge so_far filled told =
+    (refl, by_record side start old new rs count source.TooLarge record_.TooLarge (λ e. absurd cc) own_large so_far filled told)
+has_failed side start old new rs count source.BadFraction so_far filled told =
+    (refl, by_record side start old new rs count source.BadFraction record_.BadFraction (λ e. absurd cc) own_fraction so_far filled told)

@@ -7,7 +7,7 @@ use Rattle.record_match.specs.Compared.{Counted}
 use Rattle.record_match.specs.Settled.{Fact}
 use Rattle.record_match.specs.Window.{at_moment}
 use Rattle.record_match.specs.declared.clock.Clock.{Clock}
-use Rattle.record_match.proofs.Looking.{folds-append}
+use Rattle.record_match.proofs.Looking.{shows-more}
 use Rattle.capture_compare.specs.Clocked.{AreBefore, Seen, latest, on_clock, seen_at}
 use Rattle.capture_compare.specs.Compared.{takes}
 use Rattle.capture_compare.specs.Sifted.{IsSifted, received_facts, sent_facts, sifting}
@@ -36,12 +36,9 @@ module _ {W : Type 0} (sees : W → Fact → W → Type 0) where
       let known = (sends-next manner clock s0 r0 s r sending receiving (sifting c h.facts a) h.so m turn).0 in
       let x = known.waits.next in
       let facts = sent_facts (told_by manner x.octets) m c.window in
-      record {
-        facts = h.facts ++ facts;
-        seen = folds-append sees start h.facts old facts new h.seen (seen x known.waits.lends);
-        so = step-full-by manner clock s0 r0 s r sending receiving (sifting c h.facts a) (sifting d (h.facts ++ facts) b) m delay fault h.so turn is late answer
-            (λ S R now i le. compared x S R now h.facts known.waits.lends i le) same;
-      }
+      shows-more sees start old new facts h (seen x known.waits.lends)
+      (step-full-by manner clock s0 r0 s r sending receiving (sifting c h.facts a) (sifting d (h.facts ++ facts) b) m delay fault h.so turn is late answer
+      (λ S R now i le. compared x S R now h.facts known.waits.lends i le) same)
 
   -- over a record that was sent
   pub shown-sent : (start old new : W) (manner : Manner) (clock : Clock) (s0 r0 s t r : Stream) (sending after receiving : Coming) (c d : Counted) (a b : Aside) (m n : ℕ) (result : Result (Unit {0}) CompareFault)
@@ -56,14 +53,11 @@ module _ {W : Type 0} (sees : W → Fact → W → Type 0) where
       let known = (sends-next manner clock s0 r0 s r sending receiving (sifting c h.facts a) h.so m turn).0 in
       let x = known.waits.next in
       let facts = sent_facts (told_by manner x.octets) m c.window in
-      record {
-        facts = h.facts ++ facts;
-        seen = folds-append sees start h.facts old facts new h.seen (seen x known.waits.lends);
-        so = step-sent-by manner clock s0 r0 s t r sending after receiving (sifting c h.facts a) (sifting d (h.facts ++ facts) b) m n result h.so turn answer
-            (λ y S R now e i le early. subst (λ (z : Record). IsSifted (sifting d (h.facts ++ sent_facts (told_by manner z.octets) m c.window) b) (S ++ seen_at manner m y ∷ []) R m)
-            (same-record y x (sym e ∙ known.waits.lends)) (compared y S R now h.facts e i le early))
-            same fetched;
-      }
+      shows-more sees start old new facts h (seen x known.waits.lends)
+      (step-sent-by manner clock s0 r0 s t r sending after receiving (sifting c h.facts a) (sifting d (h.facts ++ facts) b) m n result h.so turn answer
+      (λ y S R now e i le early. subst (λ (z : Record). IsSifted (sifting d (h.facts ++ sent_facts (told_by manner z.octets) m c.window) b) (S ++ seen_at manner m y ∷ []) R m)
+      (same-record y x (sym e ∙ known.waits.lends)) (compared y S R now h.facts e i le early))
+      same fetched)
 
   -- over one that was received
   pub shown-received : (start old new : W) (manner : Manner) (clock : Clock) (s0 r0 s r t : Stream) (sending receiving after : Coming) (c d : Counted) (a b : Aside) (m : ℕ) (result : Result (Unit {0}) CompareFault)
@@ -77,11 +71,8 @@ module _ {W : Type 0} (sees : W → Fact → W → Type 0) where
       let known = (receives-next manner clock s0 r0 s r sending receiving (sifting c h.facts a) h.so m turn).0 in
       let x = known.waits.next in
       let facts = received_facts (told_by manner x.octets) m c in
-      record {
-        facts = h.facts ++ facts;
-        seen = folds-append sees start h.facts old facts new h.seen (seen x known.waits.lends);
-        so = step-received-by manner clock s0 r0 s r t sending receiving after (sifting c h.facts a) (sifting d (h.facts ++ facts) b) m result h.so turn
-            (λ y S R now e i le. subst (λ (z : Record). IsSifted (sifting d (h.facts ++ received_facts (told_by manner z.octets) m c) b) S (R ++ seen_at manner m y ∷ []) m)
-            (same-record y x (sym e ∙ known.waits.lends)) (compared y S R now h.facts e i le))
-            same fetched;
-      }
+      shows-more sees start old new facts h (seen x known.waits.lends)
+      (step-received-by manner clock s0 r0 s r t sending receiving after (sifting c h.facts a) (sifting d (h.facts ++ facts) b) m result h.so turn
+      (λ y S R now e i le. subst (λ (z : Record). IsSifted (sifting d (h.facts ++ received_facts (told_by manner z.octets) m c) b) S (R ++ seen_at manner m y ∷ []) m)
+      (same-record y x (sym e ∙ known.waits.lends)) (compared y S R now h.facts e i le))
+      same fetched)

@@ -1,15 +1,17 @@
 -- Records that are left aside, and those that aren't.
-use Rattle.std.proofs.Common.{◌≡◌, ◌∙◌, refl, sym, ap, subst, ℕ, ◌+◌, ◌<◌, ◌≤◌, nat_lt, Bool, true, false, List, [], ◌∷◌, ◌++◌, length, length-append, arith, Option, Some, None}
+use Rattle.std.proofs.Common.{◌≡◌, ◌∙◌, refl, sym, ap, subst, ℕ, ◌+◌, ◌<◌, ◌≤◌, Bool, true, false, List, [], ◌∷◌, ◌++◌, length, length-append, arith, Option, Some, None}
 use Rattle.std.proofs.lemmas.List.{append-nil}
-use Rattle.std.proofs.lemmas.Bool.{cond-false, cond-true, ltb-false, ltb-true}
+use Rattle.std.proofs.lemmas.Bool.{cond-false, cond-true}
 use Rattle.pcap_io.specs.Record.{Record}
 use Rattle.record_match.specs.Compared.{AreBefore as AreMatchedBefore, Counted, IsCompared, facts_of, logged}
-use Rattle.record_match.specs.Laws.{AreOver}
-use Rattle.record_match.specs.Match.{Record as Matched, Sent}
+use Rattle.record_match.specs.Match.{Record as Matched}
 use Rattle.record_match.specs.Settled.{Fact, gone_alone}
-use Rattle.record_match.specs.Window.{is_over}
+use Rattle.record_match.specs.Window.{Window, has_room}
+use Rattle.record_match.proofs.Comparing.{are-over-later}
 use Rattle.capture_compare.specs.Clocked.{AreBefore, Seen, kept, with_key}
+use Rattle.capture_compare.specs.Compared.{takes}
 use Rattle.capture_compare.specs.Sifted.{IsSifted, received_facts, sent_facts, sifting}
+use Rattle.capture_compare.specs.Turns.{unless_full}
 use Rattle.capture_compare.specs.declared.aside.Aside.{Aside}
 use Rattle.carried_key.specs.declared.key.Manner.{Manner}
 use Rattle.carried_key.specs.Key.{is_ignored, key_by, told_by}
@@ -41,29 +43,7 @@ kept-none xs m = kept-append xs (record { moment = m; key = None } ∷ []) ∙ a
 one-longer : (xs : List Seen) (x : Seen) → length (xs ++ x ∷ []) ≡ length xs + 1
 one-longer xs x = let longer = length-append xs (x ∷ []) in omega (arith, longer)
 
--- ---- what is over stays so
-
-over-later : (within now later : ℕ) (s : Sent) → now ≤ later → is_over within now s ≡ true → is_over within later s ≡ true
-over-later within now later s le h = by s.is_taken refl
-  where
-    lt-true : (m n : ℕ) → m < n → nat_lt m n ≡ true
-    lt-true m n l = on (nat_lt m n) refl
-      where
-        on : (q : Bool) → nat_lt m n ≡ q → nat_lt m n ≡ true
-        on true g = g
-        on false g = absurd (omega (arith, l, ltb-false m n g))
-
-    by : (q : Bool) → s.is_taken ≡ q → is_over within later s ≡ true
-    by true g = rw g refl
-    by false g =
-        let past : nat_lt (s.moment + within) now ≡ true = rw g at h in
-        let old = ltb-true (s.moment + within) now past in
-        let less : s.moment + within < later = omega (arith, le, old) in
-        rw (g, lt-true (s.moment + within) later less) refl
-
-are-over-later : (within now later : ℕ) (ss : List Sent) → now ≤ later → AreOver within now ss → AreOver within later ss
-are-over-later within now later [] le h = tt
-are-over-later within now later (s ∷ ss) le h = (over-later within now later s le h.0, are-over-later within now later ss le h.1)
+-- ---- nothing is compared
 
 compared-later : (c : Counted) (log : List Fact) (S R : List Matched) (now m : ℕ) → IsCompared (logged c log) S R now → now ≤ m → IsCompared (logged c (log ++ [])) S R m
 compared-later c log S R now m h le = subst (λ (l : List Fact). IsCompared (logged c l) S R m) (sym (append-nil log)) (record {
@@ -85,13 +65,28 @@ compared-later c log S R now m h le = subst (λ (l : List Fact). IsCompared (log
 pub same-record : (x y : Record) → Some x ≡ Some y → x ≡ y
 same-record x y e = cc
 
-pub told-none : (manner : Manner) (b : List ℕ) → is_ignored manner b ≡ true → told_by manner b ≡ None
-told-none manner b h = cond-true _ _ _ h
+-- of a record that is lent, by whether it is left aside
+pub told-none : (manner : Manner) {own x r : Record} {q : Bool} → own ≡ x → Some x ≡ Some r → q ≡ is_ignored manner own.octets → q ≡ true → told_by manner r.octets ≡ None
+told-none manner view lends asked so =
+    cond-true _ _ _ (ap (λ (y : Record). is_ignored manner y.octets) (sym (view ∙ same-record _ _ lends)) ∙ sym asked ∙ so)
 
-pub told-key : (manner : Manner) (b : List ℕ) → is_ignored manner b ≡ false → told_by manner b ≡ Some (key_by manner b)
-told-key manner b h = cond-false _ _ _ h
+pub told-key : (manner : Manner) {own x r : Record} {q : Bool} → own ≡ x → Some x ≡ Some r → q ≡ is_ignored manner own.octets → q ≡ false → told_by manner r.octets ≡ Some (key_by manner own.octets)
+told-key manner view lends asked isnt =
+    let back = sym (view ∙ same-record _ _ lends) in
+    cond-false _ _ _ (ap (λ (y : Record). is_ignored manner y.octets) back ∙ sym asked ∙ isnt) ∙ ap (λ (y : Record). Some (key_by manner y.octets)) back
 
 -- ---- one record more
+
+-- so many were compared, and one of those that aren't left aside is more
+one-more : (c d a m : ℕ) (rs : List Seen) (key other : List ℕ) → c ≡ length (kept rs) → d ≡ length (kept rs ++ record { moment = m; octets = key } ∷ []) → c + a ≡ length rs → d + a ≡ length (rs ++ record { moment = m; key = Some other } ∷ [])
+one-more c d a m rs key other before now all =
+    let one = length-append (kept rs) (record { moment = m; octets = key } ∷ []) in
+    let longer = one-longer rs (record { moment = m; key = Some other }) in
+    omega (arith, before, now, one, all, longer)
+
+-- none is more
+none-more : (c d a : ℕ) (rs : List Seen) → c ≡ length (kept rs) → d ≡ length (kept rs) → c + a ≡ length rs → d + a ≡ length rs
+none-more c d a rs before now all = omega (arith, before, now, all)
 
 pub sent-aside : (c : Counted) (a : Aside) (log : List Fact) (S R : List Seen) (now m : ℕ) (k : Option (List ℕ)) → k ≡ None → IsSifted (sifting c log a) S R now → now ≤ m
     → IsSifted (sifting c (log ++ sent_facts k m c.window) (record { sent = a.sent + 1; received = a.received })) (S ++ record { moment = m; key = k } ∷ []) R m
@@ -117,33 +112,22 @@ pub sent-kept : (c d : Counted) (a : Aside) (log : List Fact) (S R : List Seen) 
 sent-kept c d a log S R now m None key e h g = absurd cc
 sent-kept c d a log S R now m (Some other) key e h g =
     let same : other ≡ key = cc in
-    let own = h.compared in
-    let before : c.sent ≡ length (kept S) = own.sent_is in
-    let now_is : d.sent ≡ length (kept S ++ record { moment = m; octets = key } ∷ []) = g.sent_is in
-    let one = length-append (kept S) (record { moment = m; octets = key } ∷ []) in
-    let old : c.sent + a.sent ≡ length S = h.sent_aside_is in
-    let longer = one-longer S (record { moment = m; key = Some other }) in
-    let theirs : d.received ≡ c.received = g.received_is ∙ sym own.received_is in
     record {
       compared = subst (λ (l : List Matched). IsCompared (logged d (log ++ gone_alone m c.window)) l (kept R) m)
           (sym (kept-one S m other ∙ ap (λ (t : List ℕ). kept S ++ record { moment = m; octets = t } ∷ []) same)) g;
-      sent_aside_is = omega (arith, before, now_is, one, old, longer);
-      received_aside_is = subst (λ (n : ℕ). n + a.received ≡ length R) (sym theirs) h.received_aside_is;
+      sent_aside_is = one-more c.sent d.sent a.sent m S key other h.compared.sent_is g.sent_is h.sent_aside_is;
+      received_aside_is = none-more c.received d.received a.received R h.compared.received_is g.received_is h.received_aside_is;
     }
 
 pub sent-full : (c d : Counted) (a : Aside) (log : List Fact) (S R : List Seen) (now m : ℕ) (k : Option (List ℕ)) (key : List ℕ) → k ≡ Some key → IsSifted (sifting c log a) S R now
     → IsCompared (logged d (log ++ gone_alone m c.window)) (kept S) (kept R) m
     → IsSifted (sifting d (log ++ sent_facts k m c.window) a) S R m
 sent-full c d a log S R now m None key e h g = absurd cc
-sent-full c d a log S R now m (Some other) key e h g =
-    let own = h.compared in
-    let mine : d.sent ≡ c.sent = g.sent_is ∙ sym own.sent_is in
-    let theirs : d.received ≡ c.received = g.received_is ∙ sym own.received_is in
-    record {
-      compared = g;
-      sent_aside_is = subst (λ (n : ℕ). n + a.sent ≡ length S) (sym mine) h.sent_aside_is;
-      received_aside_is = subst (λ (n : ℕ). n + a.received ≡ length R) (sym theirs) h.received_aside_is;
-    }
+sent-full c d a log S R now m (Some other) key e h g = record {
+  compared = g;
+  sent_aside_is = none-more c.sent d.sent a.sent S h.compared.sent_is g.sent_is h.sent_aside_is;
+  received_aside_is = none-more c.received d.received a.received R h.compared.received_is g.received_is h.received_aside_is;
+}
 
 pub received-kept : (c d : Counted) (a : Aside) (log : List Fact) (S R : List Seen) (now m : ℕ) (k : Option (List ℕ)) (key : List ℕ) → k ≡ Some key → IsSifted (sifting c log a) S R now
     → IsCompared (logged d (log ++ facts_of c (record { moment = m; octets = key }))) (kept S) (kept R ++ record { moment = m; octets = key } ∷ []) m
@@ -155,17 +139,10 @@ received-kept c d a log S R now m (Some other) key e h g =
   where
     by : (other : List ℕ) → key ≡ other → IsSifted (sifting d (log ++ received_facts (Some other) m c) a) S (R ++ record { moment = m; key = Some other } ∷ []) m
     by other same = subst (λ (t : List ℕ). IsSifted (sifting d (log ++ received_facts (Some t) m c) a) S (R ++ record { moment = m; key = Some t } ∷ []) m) same
-        (let own = h.compared in
-        let before : c.received ≡ length (kept R) = own.received_is in
-        let now_is : d.received ≡ length (kept R ++ record { moment = m; octets = key } ∷ []) = g.received_is in
-        let one = length-append (kept R) (record { moment = m; octets = key } ∷ []) in
-        let old : c.received + a.received ≡ length R = h.received_aside_is in
-        let longer = one-longer R (record { moment = m; key = Some key }) in
-        let mine : d.sent ≡ c.sent = g.sent_is ∙ sym own.sent_is in
-        record {
+        (record {
           compared = subst (λ (l : List Matched). IsCompared (logged d (log ++ facts_of c (record { moment = m; octets = key }))) (kept S) l m) (sym (kept-one R m key)) g;
-          sent_aside_is = subst (λ (n : ℕ). n + a.sent ≡ length S) (sym mine) h.sent_aside_is;
-          received_aside_is = omega (arith, before, now_is, one, old, longer);
+          sent_aside_is = none-more c.sent d.sent a.sent S h.compared.sent_is g.sent_is h.sent_aside_is;
+          received_aside_is = one-more c.received d.received a.received m R key key h.compared.received_is g.received_is h.received_aside_is;
         })
 
 -- ---- what is told
@@ -177,6 +154,10 @@ facts-kept m c (Some other) key e = let same : other ≡ key = cc in ap (λ (t :
 pub facts-gone : (m : ℕ) (c : Counted) (k : Option (List ℕ)) (key : List ℕ) → k ≡ Some key → sent_facts k m c.window ≡ gone_alone m c.window
 facts-gone m c None key e = absurd cc
 facts-gone m c (Some other) key e = refl
+
+-- what a step answers at a record that was sent, by whether there was room for it
+pub answer-by : {k : Option (List ℕ)} {key : List ℕ} {had is : Bool} (w : Window) (moment : ℕ) → k ≡ Some key → had ≡ has_room w (length key) → had ≡ is → unless_full is moment ≡ unless_full (takes w k) moment
+answer-by w moment some room holds = sym (ap (λ (k : Option (List ℕ)). unless_full (takes w k) moment) some ∙ ap (λ (q : Bool). unless_full q moment) (sym room ∙ holds))
 
 -- ---- the beginning
 

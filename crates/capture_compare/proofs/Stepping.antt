@@ -2,15 +2,18 @@
 use Rattle.std.proofs.Common.{◌≡◌, ◌≢◌, ◌∙◌, refl, sym, ap, subst, ℕ, ◌+◌, ◌-◌, ◌^◌, ◌≤◌, ◌<◌, Bool, true, false, List, [], ◌∷◌, ◌++◌, length, length-append, arith, Option, Some, None, IfSome, Result, Ok, Err}
 use Rattle.std.specs.Prelude.{IsSome}
 use Rattle.pcap_io.specs.Record.{Record}
-use Rattle.pcap_stream.specs.Source.{Standing, Stream, New, Open, Ended, Failed, lent, most_left}
-use Rattle.capture_compare.specs.Sifted.{IsSifted, Sifting}
+use Rattle.pcap_stream.specs.Source.{Stream, lent, most_left}
+use Rattle.capture_compare.specs.Sifted.{IsSifted, Sifting, sifting}
+use Rattle.record_match.specs.Compared.{Counted}
 use Rattle.record_match.specs.Match.{Record as Matched, matched, received_count}
+use Rattle.record_match.specs.Settled.{Fact}
 use Rattle.record_match.specs.Window.{at_moment}
 use Rattle.record_match.specs.declared.clock.Clock.{Clock}
 use Rattle.record_match.proofs.Meeting.{each_is_told}
 use Rattle.capture_compare.specs.Clocked.{AreBefore, AreUpTo, Seen, kept, latest, on_clock, seen_at}
 use Rattle.capture_compare.specs.Compared.{AllHadRoom, AreCounts, records_in, takes}
-use Rattle.capture_compare.specs.Turns.{Amidst, Fetches, HasLent, IsDone, Stands, StandsBy, Steps, Stopped, StopsBehind, turn_of, unless_full, weight}
+use Rattle.capture_compare.specs.Turns.{Amidst, Fetches, HasLent, IsDone, MayReceive, MaySend, Stands, StandsBy, Steps, Stopped, StopsBehind, turn_of, unless_full}
+use Rattle.capture_compare.specs.declared.aside.Aside.{Aside}
 use Rattle.capture_compare.specs.declared.coming.Coming.{Coming}
 use Rattle.capture_compare.specs.declared.turn.Turn.TheVariants as turns
 use Rattle.capture_compare.specs.declared.fault.CompareFault.{CompareFault}
@@ -82,36 +85,43 @@ all-compared manner clock s0 r0 s r sending receiving c h turn = λ sent receive
 
 -- ---- counts fit
 
-pub sent-fits : (manner : Manner) (clock : Clock) (s0 r0 s r : Stream) (sending receiving : Coming) (c : Sifting) (m : ℕ) → Amidst manner clock s0 r0 s r sending receiving c → turn_of sending.next receiving.next ≡ turns.Sent m → most_left s0 < 2 ^ 64
-    → IsSome (lent s.standing) × (sending.fetched + 1 < 2 ^ 64) × (c.sent + 1 < 2 ^ 64) × (c.aside.sent + 1 < 2 ^ 64) × (clock.sent_delay ≤ m)
-sent-fits manner clock s0 r0 s r sending receiving c m h turn few =
-    let known = (sends-next manner clock s0 r0 s r sending receiving c h m turn).0 in
+pub sent-fits : (manner : Manner) (clock : Clock) (s0 r0 s r : Stream) (sending receiving : Coming) (c : Counted) (log : List Fact) (a : Aside) (m : ℕ) → Amidst manner clock s0 r0 s r sending receiving (sifting c log a) → turn_of sending.next receiving.next ≡ turns.Sent m → most_left s0 < 2 ^ 64
+    → MaySend s sending c a m
+sent-fits manner clock s0 r0 s r sending receiving c log a m h turn few =
+    let known = (sends-next manner clock s0 r0 s r sending receiving (sifting c log a) h m turn).0 in
     let taken = known.waits.taken in
-    let spent = taken.spent in
-    let count = taken.count_is in
     let longer = length-append h.sent (known.waits.next ∷ []) in
-    let sent = h.compared.sent_aside_is in
+    let sent : c.sent + a.sent ≡ length (on_clock manner clock.sent_delay h.sent) = h.compared.sent_aside_is in
     let many = timed-length manner clock.sent_delay 0 h.sent in
-    let moment = known.waits.moment_is in
-    (subst (λ (o : Option Record). IsSome o) (sym known.waits.lends) refl, omega (arith, spent, count, longer, few), omega (arith, spent, longer, few, sent, many), omega (arith, spent, longer, few, sent, many), omega (arith, moment))
+    record {
+      lends = subst (λ (o : Option Record). IsSome o) (sym known.waits.lends) refl;
+      fetched = omega (arith, taken.spent, taken.count_is, longer, few);
+      sent = omega (arith, taken.spent, longer, few, sent, many);
+      aside = omega (arith, taken.spent, longer, few, sent, many);
+      delay = omega (arith, known.waits.moment_is, h.sent_stands.delay_is);
+    }
 
 pub fewer-both : (within : ℕ) (S R : List Matched) → received_count (matched within S R) ≤ length R
 fewer-both within S R = let all = each_is_told within S R in omega (arith, all)
 
-pub received-fits : (manner : Manner) (clock : Clock) (s0 r0 s r : Stream) (sending receiving : Coming) (c : Sifting) (m : ℕ) → Amidst manner clock s0 r0 s r sending receiving c → turn_of sending.next receiving.next ≡ turns.Received m → most_left r0 < 2 ^ 64
-    → IsSome (lent r.standing) × (receiving.fetched + 1 < 2 ^ 64) × (c.received + 1 < 2 ^ 64) × (c.both + 1 < 2 ^ 64) × (c.aside.received + 1 < 2 ^ 64)
-received-fits manner clock s0 r0 s r sending receiving c m h turn few =
-    let known = (receives-next manner clock s0 r0 s r sending receiving c h m turn).0 in
+pub received-fits : (manner : Manner) (clock : Clock) (s0 r0 s r : Stream) (sending receiving : Coming) (c : Counted) (log : List Fact) (a : Aside) (m : ℕ) → Amidst manner clock s0 r0 s r sending receiving (sifting c log a) → turn_of sending.next receiving.next ≡ turns.Received m → most_left r0 < 2 ^ 64
+    → MayReceive r receiving c a
+received-fits manner clock s0 r0 s r sending receiving c log a m h turn few =
+    let known = (receives-next manner clock s0 r0 s r sending receiving (sifting c log a) h m turn).0 in
     let taken = known.waits.taken in
-    let spent = taken.spent in
-    let count = taken.count_is in
     let longer = length-append h.received (known.waits.next ∷ []) in
-    let received = h.compared.received_aside_is in
-    let taken_in = h.compared.compared.received_is in
-    let both = h.compared.compared.both_is in
+    let received : c.received + a.received ≡ length (on_clock manner clock.received_delay h.received) = h.compared.received_aside_is in
+    let taken_in : c.received ≡ length (kept (on_clock manner clock.received_delay h.received)) = h.compared.compared.received_is in
     let met = fewer-both c.window.within (kept (on_clock manner clock.sent_delay h.sent)) (kept (on_clock manner clock.received_delay h.received)) in
+    let both : c.both ≡ received_count (matched c.window.within (kept (on_clock manner clock.sent_delay h.sent)) (kept (on_clock manner clock.received_delay h.received))) = h.compared.compared.both_is in
     let many = timed-length manner clock.received_delay 0 h.received in
-    (subst (λ (o : Option Record). IsSome o) (sym known.waits.lends) refl, omega (arith, spent, count, longer, few), omega (arith, spent, longer, few, received, many), omega (arith, spent, longer, few, received, many, taken_in, both, met), omega (arith, spent, longer, few, received, many))
+    record {
+      lends = subst (λ (o : Option Record). IsSome o) (sym known.waits.lends) refl;
+      fetched = omega (arith, taken.spent, taken.count_is, longer, few);
+      received = omega (arith, taken.spent, longer, few, received, many);
+      both = omega (arith, taken.spent, longer, few, received, many, taken_in, both, met);
+      aside = omega (arith, taken.spent, longer, few, received, many);
+    }
 
 pub room-by : (q : Bool) (m : ℕ) → ◌≡◌ {A = Result (Unit {0}) CompareFault} (Ok tt) (unless_full q m) → q ≡ true
 room-by true m e = refl
@@ -166,21 +176,6 @@ step-received-by manner clock s0 r0 s r t sending receiving after c d m result h
     step-received manner clock s0 r0 s t sending after d h.sent rs m result known
     (subst (λ (k : ℕ). Fetches manner sides.Received k r0 t rs after result) h.received_stands.delay_is
     (subst (λ (of : Side). Fetches manner of receiving.delay r0 t rs after result) h.received_stands.side_is (fetched r0 rs now.1 late)))
-
--- ---- the loop
-
--- a source that lends a record was begun
-pub lends-begun : (s : Standing) → IsSome (lent s) → s ≢ New
-lends-begun New h e = absurd cc
-lends-begun (Open style last) h e = absurd cc
-lends-begun (Ended is_cut) h e = absurd cc
-lends-begun (Failed fault) h e = absurd cc
-
--- less may come behind a record
-pub weighs-less : (old new : Option ℕ) (s t : Stream) (m : ℕ) → old ≡ Some m → IfSome new (λ _. 16 + most_left t ≤ most_left s) → weight new t < weight old s
-weighs-less None new s t m e h = absurd cc
-weighs-less (Some k) None s t m e h = omega arith
-weighs-less (Some k) (Some n) s t m e h = omega (arith, h)
 
 -- ---- what the first calls tell
 

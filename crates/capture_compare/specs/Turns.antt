@@ -1,6 +1,6 @@
 -- Two captures amidst a comparison. It serves proofs.
-use Rattle.std.specs.Prelude.{◌≡◌, ◌≢◌, ◌≤◌, ℕ, ◌+◌, ◌*◌, max, nat_le, if◌then◌else◌, Bool, true, false}
-use Rattle.std.specs.Prelude.{List, [], ◌∷◌, ◌++◌, length, Option, Some, None, IfSome, Result, Ok, Err}
+use Rattle.std.specs.Prelude.{◌≡◌, ◌≢◌, ◌≤◌, ◌<◌, ℕ, ◌+◌, ◌*◌, ◌^◌, max, nat_le, if◌then◌else◌, Bool, true, false}
+use Rattle.std.specs.Prelude.{List, [], ◌∷◌, ◌++◌, length, Option, Some, None, IfSome, IsSome, Result, Ok, Err}
 use Rattle.pcap_io.specs.Record.{Record}
 use Rattle.pcap_io.specs.declared.header.CaptureFault.TheVariants as capture
 use Rattle.pcap_io.specs.declared.record.RecordFault.TheVariants as record_
@@ -132,6 +132,24 @@ abbrev pub StepIsShown : {W : Type 0} → (W → Fact → W → Type 0) → W �
     → Coming → Coming → Counted → Aside → Result (Unit {0}) CompareFault → Type 0
 StepIsShown sees start now manner clock s0 r0 s r sending receiving c aside result =
     Shows sees start now (λ log. Steps manner clock s0 r0 s r sending receiving (sifting c log aside) result)
+
+-- ---- counts fit
+
+-- the capture of what was sent lends a record, each count has room for one more, and the moment isn't before the delay
+pub record MaySend (s : Stream) (sending : Coming) (c : Counted) (left : Aside) (moment : ℕ) : Type 0 where
+  pub lends : IsSome (lent s.standing)
+  pub fetched : sending.fetched + 1 < 2 ^ 64
+  pub sent : c.sent + 1 < 2 ^ 64
+  pub aside : left.sent + 1 < 2 ^ 64
+  pub delay : sending.delay ≤ moment
+
+-- the capture of what was received lends a record, and each count has room for one more
+pub record MayReceive (r : Stream) (receiving : Coming) (c : Counted) (left : Aside) : Type 0 where
+  pub lends : IsSome (lent r.standing)
+  pub fetched : receiving.fetched + 1 < 2 ^ 64
+  pub received : c.received + 1 < 2 ^ 64
+  pub both : c.both + 1 < 2 ^ 64
+  pub aside : left.received + 1 < 2 ^ 64
 
 -- ---- how much may come
 

@@ -1,12 +1,12 @@
 //! The records of two captures in the order of their moments.
-ghost use Rattle.std.specs.Prelude.{◌≡◌, ◌≤◌, ◌<◌, ◌+◌, ◌^◌, ℕ, List, [], Some, IfSome, IsSome, OnOk};
-ghost use Rattle.pcap_stream.specs.Source.{New, Stream, lent, most_left};
+ghost use Rattle.std.specs.Prelude.{◌≡◌, ◌≤◌, ◌<◌, ◌+◌, ◌^◌, ℕ, List, [], Some, IfSome, OnOk};
+ghost use Rattle.pcap_stream.specs.Source.{New, Stream, most_left};
 ghost use Rattle.record_match.specs.Compared.{IsCompared, logged};
 ghost use Rattle.record_match.specs.Settled.{Shows};
 ghost use Rattle.record_match.specs.declared.clock.Clock.{Clock as AClock};
 ghost use Rattle.capture_compare.specs.Compared.{Tells};
 ghost use Rattle.capture_compare.specs.Sifted.{sifting};
-ghost use Rattle.capture_compare.specs.Turns.{IsShown, StepIsShown, turn_of};
+ghost use Rattle.capture_compare.specs.Turns.{IsShown, MayReceive, MaySend, StepIsShown, turn_of};
 ghost use Rattle.capture_compare.specs.declared.coming.Coming.{Coming as AComing};
 ghost use Rattle.capture_compare.specs.declared.turn.Turn.TheVariants as turns;
 
@@ -52,44 +52,32 @@ pub fn compare_captures<R: Input, W: Onlooker>(
         → Tells manner.now clock sent_text received_text (sifting comparison.new log aside.new) result) }
 {
     let mut sending = Coming::new(Side::Sent, clock.sent_delay);
-    if let Err(fault) = sending.open(sent) {
-        return Err(fault);
-    }
+    sending.open(sent)?;
     let mut receiving = Coming::new(Side::Received, clock.received_delay);
-    if let Err(fault) = receiving.open(received) {
-        return Err(fault);
-    }
+    receiving.open(received)?;
     'turns: loop {
         match turn_of(sending.next, receiving.next) {
             Turn::Done => return Ok(()),
-            Turn::Sent(moment) => {
-                if let Err(fault) = send_next(
-                    sent,
-                    &mut sending,
-                    moment,
-                    manner,
-                    room,
-                    comparison,
-                    aside,
-                    onlooker,
-                ) {
-                    return Err(fault);
-                }
-            }
-            Turn::Received(moment) => {
-                if let Err(fault) = receive_next(
-                    received,
-                    &mut receiving,
-                    moment,
-                    manner,
-                    room,
-                    comparison,
-                    aside,
-                    onlooker,
-                ) {
-                    return Err(fault);
-                }
-            }
+            Turn::Sent(moment) => send_next(
+                sent,
+                &mut sending,
+                moment,
+                manner,
+                room,
+                comparison,
+                aside,
+                onlooker,
+            )?,
+            Turn::Received(moment) => receive_next(
+                received,
+                &mut receiving,
+                moment,
+                manner,
+                room,
+                comparison,
+                aside,
+                onlooker,
+            )?,
         }
     }
 }
@@ -105,19 +93,15 @@ fn send_next<R: Input, W: Onlooker>(
     aside: &mut Aside,
     onlooker: &mut W,
 ) -> Result<(), CompareFault>
-    requires lent { IsSome (lent source.old.standing) }
-    requires count { sending.old.fetched + 1 < 2 ^ 64 }
-    requires sent { comparison.old.sent + 1 < 2 ^ 64 }
-    requires aside { aside.old.sent + 1 < 2 ^ 64 }
+    requires may { MaySend source.old sending.old comparison.old aside.old moment }
     requires delay { sending.old.delay ≤ 2000000000000000000 }
-    requires moment { sending.old.delay ≤ moment }
     ensures told { (clock : AClock) (s0 r0 r : Stream) (receiving : AComing) (start : W)
         → IsShown W.sees start onlooker.old manner.now clock s0 r0 source.old r sending.old receiving comparison.old aside.old
         → turn_of sending.old.next receiving.next ≡ turns.Sent moment
         → StepIsShown W.sees start onlooker.new manner.now clock s0 r0 source.new r sending.new receiving comparison.new aside.new result }
     ensures less { OnOk result (IfSome sending.new.next (λ _. 16 + most_left source.new ≤ most_left source.old)) }
 {
-    if let Err(fault) = take_sent(
+    take_sent(
         source,
         sending.delay(),
         moment,
@@ -126,9 +110,7 @@ fn send_next<R: Input, W: Onlooker>(
         comparison,
         aside,
         onlooker,
-    ) {
-        return Err(fault);
-    }
+    )?;
     sending.fetch(source, moment)
 }
 
@@ -143,11 +125,7 @@ fn receive_next<R: Input, W: Onlooker>(
     aside: &mut Aside,
     onlooker: &mut W,
 ) -> Result<(), CompareFault>
-    requires lent { IsSome (lent source.old.standing) }
-    requires count { receiving.old.fetched + 1 < 2 ^ 64 }
-    requires received { comparison.old.received + 1 < 2 ^ 64 }
-    requires both { comparison.old.both + 1 < 2 ^ 64 }
-    requires aside { aside.old.received + 1 < 2 ^ 64 }
+    requires may { MayReceive source.old receiving.old comparison.old aside.old }
     requires delay { receiving.old.delay ≤ 2000000000000000000 }
     ensures told { (clock : AClock) (s0 r0 s : Stream) (sending : AComing) (start : W)
         → IsShown W.sees start onlooker.old manner.now clock s0 r0 s source.old sending receiving.old comparison.old aside.old

@@ -1,18 +1,16 @@
 -- Where a step of a pass leads.
-use Rattle.std.proofs.Common.{◌≡◌, ◌∙◌, refl, sym, ap, subst, ℕ, ◌+◌, ◌-◌, ◌≤◌, Bool, true, false, List, [], ◌++◌, length, take, drop, arith, length-drop, length-take, Option, None, Some, Result, Ok, Err}
-use Rattle.std.specs.Prelude.{◌==◌, ◌&&◌, nat_lt, if◌then◌else◌, option_map, IfOk, IfSome}
-use Rattle.std.proofs.lemmas.Bool.{ltb-false, or_parts}
-use Rattle.pcap_io.specs.Style.{number_of}
+use Rattle.std.proofs.Common.{◌≡◌, ◌∙◌, refl, sym, ap, subst, ℕ, ◌+◌, ◌-◌, ◌≤◌, Bool, true, false, List, [], ◌++◌, length, take, drop, arith, length-drop, Option, None, Some, Result, Ok, Err}
+use Rattle.std.specs.Prelude.{option_map, IfOk, IfSome}
 use Rattle.pcap_io.specs.declared.style.Order.{Order}
 use Rattle.pcapng_input.proofs.Passing.{other_meaning}
-use Rattle.pcapng_input.proofs.Readings.{packets-end}
+use Rattle.pcapng_input.proofs.Readings.{behind_block, packets-end}
 use Rattle.pcapng_input.specs.Adapted.{told_behind, told_end, told_reading}
 use Rattle.pcapng_input.specs.Adapter.{Gathered}
-use Rattle.pcapng_input.specs.Block.{AllRead, AnotherBlock, Block, BlockEnd, CutShort, NextBlock, NoBlock, Refused, block_at, block_by_order, end_by_size, is_no_length, is_read, longest_block, next_block, order_at}
+use Rattle.pcapng_input.specs.Block.{AllRead, AnotherBlock, Block, BlockEnd, CutShort, NoBlock, Refused, next_block}
 use Rattle.pcapng_input.specs.Filled.{IsFilled, IsPassedBlock, OfTexts, StandsNext, octets_left, text_left}
 use Rattle.pcapng_input.specs.Reading.{end_at, ended}
 use Rattle.pcapng_input.specs.declared.fault.BlockFault.{BlockFault}
-use Rattle.pcapng_input.specs.declared.fault.BlockFault.TheVariants.{BadLength, TooLarge}
+use Rattle.pcapng_input.specs.declared.fault.BlockFault.TheVariants.{BadLength}
 use Rattle.pcapng_input.specs.declared.fault.PcapngFault.{PcapngFault}
 use Rattle.pcapng_input.specs.declared.filling.Filled.TheVariants as filled
 use Rattle.pcapng_input.specs.declared.interface.Selection.TheVariants.{Number}
@@ -25,48 +23,6 @@ use Rattle.capture_split.specs.declared.step.Step.{Step}
 use Rattle.capture_split.specs.declared.step.Step.TheVariants as step
 use Rattle.capture_split.specs.declared.taken.Taken.{Taken}
 use Rattle.capture_split.specs.declared.taken.Taken.TheVariants as taken
-
--- ---- what is behind a block
-
-abbrev IsBehindBlock : List ℕ → NextBlock → Type 0
-IsBehindBlock text (AnotherBlock block rest) = drop (12 + length block.body) text ≡ rest
-IsBehindBlock text (NoBlock end) = Unit {0}
-
-by_tests : (order : Order) (size : ℕ) (text : List ℕ) (a b c d : Bool) → is_no_length size ≡ a → nat_lt (length text) size ≡ c
-    → IsBehindBlock text
-    (if a then NoBlock (Refused BadLength)
-    else if b then NoBlock (Refused TooLarge)
-    else if c then NoBlock CutShort
-    else if d then AnotherBlock (block_at order size text) (drop size text)
-    else NoBlock (Refused BadLength))
-by_tests order size text true b c d p q = tt
-by_tests order size text false true c d p q = tt
-by_tests order size text false false true d p q = tt
-by_tests order size text false false false false p q = tt
-by_tests order size text false false false true p q =
-    let long = ltb-false size 12 (or_parts _ _ p).0 in
-    let room = ltb-false (length text) size q in
-    let body : 12 + length (take (size - 12) (drop 8 text)) ≡ size = omega (arith, length-take (size - 12) (drop 8 text), length-drop 8 text, long, room) in
-    ap (λ n. drop n text) body
-
-by_order : (order : Option Order) (text : List ℕ) → IsBehindBlock text (block_by_order order text)
-by_order None text = tt
-by_order (Some order) text =
-    let size = number_of order 4 (drop 4 text) in
-    by_tests order size text (is_no_length size) (is_read (number_of order 4 text) && nat_lt longest_block size) (nat_lt (length text) size)
-    (number_of order 4 (drop (size - 4) text) == size) refl refl
-
-next_block-behind : (section : Option Order) (text : List ℕ) → IsBehindBlock text (next_block section text)
-unfolding next_block
-next_block-behind section text = by_head (nat_lt (length text) 12)
-  where
-    by_head : (b : Bool) → IsBehindBlock text (if b then NoBlock (end_by_size section (length text)) else block_by_order (order_at section text) text)
-    by_head true = tt
-    by_head false = by_order (order_at section text) text
-
-pub behind_block : (section : Option Order) (text : List ℕ) (block : Block) (rest : List ℕ) → AnotherBlock block rest ≡ next_block section text
-    → drop (12 + length block.body) text ≡ rest
-behind_block section text block rest is = subst (IsBehindBlock text) (sym is) (next_block-behind section text)
 
 -- ---- a block that stands in what is held
 

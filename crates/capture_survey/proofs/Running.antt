@@ -13,6 +13,7 @@ use Rattle.pcap_stream.specs.Supply.{GivesUp, Supply}
 use Rattle.pcap_stream.specs.declared.fault.SourceFault.{SourceFault}
 use Rattle.pcap_stream.specs.declared.fault.SourceFault.TheVariants as source
 use Rattle.pcap_stream.proofs.Runs.{ends, one_more}
+use Rattle.pcap_stream.proofs.Refusals.{faulty_end, lends_none}
 use Rattle.capture_survey.proofs.Counting.{has_room}
 use Rattle.timeline.specs.declared.source.Tap.{Tap}
 use Rattle.capture_survey.specs.Survey.{IsCounted, IsOpen, ReadsAll, ReadsWith, source_fault}
@@ -104,23 +105,6 @@ pub all_quiet : (tap : Tap) (start old new : Stream) (t : Tally) → HasRead tap
 all_quiet tap start old new t so_far filled = read_on old new (Ok tt) old.standing so_far.is_open filled ∙ so_far.quiet
 
 -- ---- a fault
-
-lends_none : (s : Standing) (fault : SourceFault) → Err fault ≡ answer s → lent s ≡ None
-lends_none New fault is = absurd cc
-lends_none (Open style last) fault is = absurd cc
-lends_none (Ended is_cut) fault is = refl
-lends_none (Failed other) fault is = refl
-
--- an end with a fault is that of a record
-record Ends (end : End) (fault : SourceFault) : Type 0 where
-  pub own : RecordFault
-  pub end_is : end ≡ Faulty own
-  pub fault_is : fault ≡ record_fault own
-
-faulty_end : (end : End) (fault : SourceFault) → Err fault ≡ answer (after_end end) → Ends end fault
-faulty_end Whole fault is = absurd cc
-faulty_end Cut fault is = absurd cc
-faulty_end (Faulty own) fault is = record { own = own; end_is = refl; fault_is = cc }
 
 tells_fault : (tap : Tap) (text : List ℕ) (s : Standing) (n : ℕ) (rs : List Record) (own : RecordFault) → opened text ≡ Ok (record { records = rs; end = Faulty own }) → n ≡ length rs + 1
     → ReadsAll tap text s (Err (source_fault n (record_fault own)))

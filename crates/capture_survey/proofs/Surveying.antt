@@ -1,5 +1,5 @@
 -- What is found in a capture, by its header and its records.
-use Rattle.std.proofs.Common.{◌≡◌, ◌≢◌, ◌⊎◌, ◌∙◌, refl, sym, ap, subst, ℕ, List, drop, Bool, true, false, Option, Some, None, IfSome, Result, Ok, Err}
+use Rattle.std.proofs.Common.{◌≡◌, ◌≢◌, ◌⊎◌, ◌∙◌, refl, sym, ap, subst, ℕ, List, drop, Bool, true, false, Option, Some, None, Result, Ok, Err}
 use Rattle.pcap_io.specs.Capture.{opened, opened_by}
 use Rattle.pcap_io.specs.Header.{style_of}
 use Rattle.pcap_io.specs.Next.{End, Whole, Cut, Faulty}
@@ -15,6 +15,7 @@ use Rattle.pcap_stream.specs.Supply.{GivesUp, Supply}
 use Rattle.pcap_stream.specs.declared.fault.SourceFault.{SourceFault}
 use Rattle.pcap_stream.specs.declared.fault.SourceFault.TheVariants as source
 use Rattle.pcap_stream.proofs.Runs.{begins}
+use Rattle.pcap_stream.proofs.Refusals.{is_refused, no_answer, told_style}
 use Rattle.pcap_stream.specs.Fault.{capture_fault}
 use Rattle.timeline.specs.declared.source.Tap.{Tap}
 use Rattle.capture_survey.specs.Survey.{Begins, Gives, IsCounted, IsOpen, ReadsAll, ReadsWith, source_fault, surveyed, surveyed_by, surveyed_to}
@@ -32,9 +33,6 @@ found_survey v = Ok v
 
 -- ---- the opening
 
-no_answer : (fault : SourceFault) → ◌≡◌ {A = Result (Unit {0}) SourceFault} (Ok tt) (Err fault) → ⊥
-no_answer fault e = cc
-
 -- what a source read that opened
 record HasOpened (standing : Standing) (header : Result Style CaptureFault) : Type 0 where
   pub style : Style
@@ -44,24 +42,6 @@ record HasOpened (standing : Standing) (header : Result Style CaptureFault) : Ty
 has_opened : (standing : Standing) (header : Result Style CaptureFault) → standing ≡ after_header header → Ok tt ≡ answer standing → HasOpened standing header
 has_opened standing (Ok style) e told = record { style = style; header_is = refl; standing_is = e }
 has_opened standing (Err fault) e told = absurd (no_answer (capture_fault fault) (told ∙ ap answer e))
-
--- what one read that was refused
-record IsRefused (fault : SourceFault) (header : Result Style CaptureFault) : Type 0 where
-  pub own : CaptureFault
-  pub header_is : header ≡ Err own
-  pub fault_is : fault ≡ capture_fault own
-
-is_refused : (fault : SourceFault) (standing : Standing) (header : Result Style CaptureFault) → standing ≡ after_header header → Err fault ≡ answer standing → IsRefused fault header
-is_refused fault standing (Ok style) e told = absurd (no_answer fault (sym (told ∙ ap answer e)))
-is_refused fault standing (Err own) e told = record { own = own; header_is = refl; fault_is = same (told ∙ ap answer e) }
-  where
-    same : ◌≡◌ {A = Result (Unit {0}) SourceFault} (Err fault) (Err (capture_fault own)) → fault ≡ capture_fault own
-    same e = cc
-
-told_style : (a b : Option (List ℕ)) (text : List ℕ) (header : Result Style CaptureFault) → a ≡ Some text
-    → IfSome a (λ text. (header ≡ style_of text) × (b ≡ Some (drop 24 text))) → header ≡ style_of text
-told_style None b text header is h = absurd cc
-told_style (Some t) b text header is h = let same : t ≡ text = cc in h.0 ∙ ap style_of same
 
 pub has_style : (old new : Stream) → IsOpened {T = Unit {0}} old new (Ok tt) → Ok tt ≡ answer new.standing → style_at new.standing ≡ None → ⊥
 has_style old new opened told none =

@@ -177,6 +177,18 @@ pub struct Report {
     pub survey: Survey,
 }
 
+impl Report {
+    /// The line of a note.
+    fn line(&self, note: Note) -> Line
+        ensures { result ≡ record { tap = self.now.tap; note = note } }
+    {
+        Line {
+            tap: self.tap,
+            note,
+        }
+    }
+}
+
 impl fmt::Display for Report {
     ghost output = { λ report. Some (report_text report) };
 
@@ -218,32 +230,14 @@ impl fmt::Display for Notes {
 
     #[tactic(auto, unfolding(crate::specs::Report::notes_text))]
     fn fmt<W: fmt::Write>(&self, f: &mut fmt::Formatter<W>) -> fmt::Result {
-        let tap = self.0.tap;
-        let tally = self.0.survey.tally;
-        let left_out = Line {
-            tap,
-            note: Note::LeftOut(self.0.left_out),
-        };
-        let falls = Line {
-            tap,
-            note: Note::Falls(tally.falls),
-        };
-        let cut_short = Line {
-            tap,
-            note: Note::CutShort(tally.cut_short),
-        };
-        let too_long = Line {
-            tap,
-            note: Note::TooLong(tap, tally.too_long),
-        };
-        let left_to_card = Line {
-            tap,
-            note: Note::LeftToCard(tally.left_to_card),
-        };
-        let cut_end = Line {
-            tap,
-            note: Note::CutEnd(self.0.survey.is_cut),
-        };
+        let report = self.0;
+        let tally = report.survey.tally;
+        let left_out = report.line(Note::LeftOut(report.left_out));
+        let falls = report.line(Note::Falls(tally.falls));
+        let cut_short = report.line(Note::CutShort(tally.cut_short));
+        let too_long = report.line(Note::TooLong(report.tap, tally.too_long));
+        let left_to_card = report.line(Note::LeftToCard(tally.left_to_card));
+        let cut_end = report.line(Note::CutEnd(report.survey.is_cut));
         write!(
             f,
             "{left_out}{falls}{cut_short}{too_long}{left_to_card}{cut_end}"

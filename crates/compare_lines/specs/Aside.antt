@@ -1,16 +1,17 @@
 -- The lines that tell how many records were left aside. It states no standard.
-use Rattle.std.specs.Prelude.{ℕ, List, ◌++◌, codes, decimal, Option, Some, None}
+use Rattle.std.specs.Prelude.{ℕ, List, ◌++◌, codes, Option, Some, None}
 use Rattle.timeline.specs.declared.source.Tap.{Tap}
 use Rattle.timeline.specs.Words.{tap_word}
 use Rattle.capture_compare.specs.declared.aside.Aside.{Aside}
+use Rattle.compare_lines.specs.Sides.{sides_words}
 
 -- of two captures that stand for themselves, one fact a line
-unfoldable pub aside_lines : Aside → List ℕ
-aside_lines a = codes "sent left aside " ++ decimal a.sent ++ codes "\nreceived left aside " ++ decimal a.received ++ codes "\n"
+abbrev pub aside_lines : Aside → List ℕ
+aside_lines a = sides_words (codes "left aside") (codes "\n") a.sent a.received ++ codes "\n"
 
 -- behind the name of a place, one line
-unfoldable pub aside_line : Aside → List ℕ
-aside_line a = codes ": sent left aside " ++ decimal a.sent ++ codes ", received left aside " ++ decimal a.received ++ codes "\n"
+abbrev pub aside_line : Aside → List ℕ
+aside_line a = codes ": " ++ sides_words (codes "left aside") (codes ", ") a.sent a.received ++ codes "\n"
 
 -- of two captures, or of a place
 abbrev pub aside_text : Option Tap → Aside → List ℕ

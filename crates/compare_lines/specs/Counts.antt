@@ -2,6 +2,7 @@
 use Rattle.std.specs.Prelude.{ℕ, ◌+◌, ◌-◌, ◌^◌, ◌==◌, ◌&&◌, min, Bool, List, ◌++◌, codes, decimal}
 use Rattle.record_match.specs.Compared.{Counted}
 use Rattle.timeline.specs.Words.{tap_word}
+use Rattle.compare_lines.specs.Sides.{sides_words}
 use Rattle.compare_lines.specs.declared.counts.Counts.{Counts}
 use Rattle.compare_lines.specs.declared.counts.Scope.{Scope}
 use Rattle.compare_lines.specs.declared.counts.Scope.TheVariants as scopes
@@ -30,33 +31,20 @@ is_none c = c.sent == 0 && c.received == 0
 abbrev pub is_same : Counts → Bool
 is_same c = c.sent == c.both && c.received == c.both
 
--- of two captures that stand for themselves, one fact a line: all of them, and those of one alone
-unfoldable pub pair_all : Counts → List ℕ
-pair_all c =
-    codes "sent " ++ decimal c.sent ++ codes "\nreceived " ++ decimal c.received ++ codes "\nboth " ++ decimal c.both ++ codes "\n"
+-- how many were sent, were received and are both, with a text between each two
+unfoldable pub all_words : List ℕ → Counts → List ℕ
+all_words between c =
+    codes "sent " ++ decimal c.sent ++ between ++ codes "received " ++ decimal c.received ++ between ++ codes "both " ++ decimal c.both
 
-unfoldable pub pair_alone : ℕ → ℕ → List ℕ
-pair_alone sent received =
-    codes "sent alone " ++ decimal sent ++ codes "\nreceived alone " ++ decimal received ++ codes "\n"
-
-abbrev pub pair_lines : Counts → List ℕ
-pair_lines c = pair_all c ++ pair_alone (c.sent - c.both) (c.received - c.both)
-
--- behind the name of a place, one line
-unfoldable pub place_all : Counts → List ℕ
-place_all c = codes ": sent " ++ decimal c.sent ++ codes ", received " ++ decimal c.received ++ codes ", both " ++ decimal c.both
-
-unfoldable pub place_alone : ℕ → ℕ → List ℕ
-place_alone sent received =
-    codes ", sent alone " ++ decimal sent ++ codes ", received alone " ++ decimal received ++ codes "\n"
-
-abbrev pub place_line : Counts → List ℕ
-place_line c = place_all c ++ place_alone (c.sent - c.both) (c.received - c.both)
+-- these behind a front, then how many of each side are alone, and a line feed
+abbrev pub count_words : List ℕ → List ℕ → Counts → List ℕ
+count_words front between c =
+    front ++ all_words between c ++ between ++ sides_words (codes "alone") between (c.sent - c.both) (c.received - c.both) ++ codes "\n"
 
 -- the lines of counts: of two captures, of a place, of all places, of a segment, and of none
 abbrev pub counts_text : Scope → Counts → List ℕ
-counts_text scopes.Pair c = pair_lines c
-counts_text (scopes.Place tap) c = tap_word tap ++ place_line c
-counts_text scopes.All c = codes "all" ++ place_line c
-counts_text (scopes.Segment vid) c = codes "segment " ++ decimal vid ++ place_line c
-counts_text scopes.NoSegment c = codes "no segment" ++ place_line c
+counts_text scopes.Pair c = count_words (codes "") (codes "\n") c
+counts_text (scopes.Place tap) c = tap_word tap ++ count_words (codes ": ") (codes ", ") c
+counts_text scopes.All c = codes "all" ++ count_words (codes ": ") (codes ", ") c
+counts_text (scopes.Segment vid) c = codes "segment " ++ decimal vid ++ count_words (codes ": ") (codes ", ") c
+counts_text scopes.NoSegment c = codes "no segment" ++ count_words (codes ": ") (codes ", ") c

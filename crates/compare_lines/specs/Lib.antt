@@ -1,4 +1,5 @@
 pub mod Aside
 pub mod Counts
 pub mod Lonely
+pub mod Sides
 pub mod Tables

@@ -4,6 +4,7 @@ use Rattle.timeline.specs.declared.source.Tap.{Tap}
 use Rattle.timeline.specs.Words.{tap_word}
 use Rattle.compare_tables.specs.declared.delays.DelaySummary.{DelaySummary}
 use Rattle.compare_tables.specs.declared.lengths.LengthRow.{LengthRow}
+use Rattle.compare_lines.specs.Sides.{sides_words}
 
 -- the place in front of a line, where captures of several are compared
 abbrev pub place_words : Option Tap → List ℕ
@@ -11,10 +12,9 @@ place_words None = []
 place_words (Some tap) = tap_word tap ++ codes ": "
 
 -- how many records of a length are both, and of one capture alone
-unfoldable pub row_words : LengthRow → List ℕ
+abbrev pub row_words : LengthRow → List ℕ
 row_words row =
-    codes "both " ++ decimal row.both ++ codes ", sent alone " ++ decimal row.sent_alone
-    ++ codes ", received alone " ++ decimal row.received_alone
+    codes "both " ++ decimal row.both ++ codes ", " ++ sides_words (codes "alone") (codes ", ") row.sent_alone row.received_alone
 
 -- the row of a length
 abbrev pub length_line : Option Tap → ℕ → LengthRow → List ℕ

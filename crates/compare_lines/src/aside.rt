@@ -1,7 +1,8 @@
 //! How many records were left aside.
-ghost use Rattle.std.specs.Prelude.{Some};
-ghost use Rattle.compare_lines.specs.Aside.{aside_line, aside_lines, aside_text};
+ghost use Rattle.std.specs.Prelude.{◌≡◌, Some, codes};
+ghost use Rattle.compare_lines.specs.Aside.{aside_text};
 
+use crate::sides::Sides;
 use capture_compare::Aside;
 use std::fmt;
 use timeline::Tap;
@@ -13,49 +14,36 @@ pub struct AsideLines {
     pub aside: Aside,
 }
 
-impl fmt::Display for AsideLines {
-    ghost output = { λ lines. Some (aside_text lines.at lines.aside) };
-
-    fn fmt<W: fmt::Write>(&self, f: &mut fmt::Formatter<W>) -> fmt::Result {
-        let pair = PairLines(self.aside);
-        let line = PlaceLine(self.aside);
-        match self.at {
-            None => write!(f, "{pair}"),
-            Some(tap) => write!(f, "{tap}{line}"),
+impl AsideLines {
+    /// How many of each side, with this between the two.
+    fn sides(&self, between: &'static str) -> Sides
+        ensures word { result.word.now ≡ codes "left aside" }
+        ensures between { result.between.now ≡ between.now }
+        ensures sent { result.sent ≡ self.now.aside.sent }
+        ensures received { result.received ≡ self.now.aside.received }
+    {
+        Sides {
+            word: "left aside",
+            between,
+            sent: self.aside.sent,
+            received: self.aside.received,
         }
     }
 }
 
-/// The lines of two captures.
-#[derive(Clone, Copy)]
-struct PairLines(Aside);
+impl fmt::Display for AsideLines {
+    ghost output = { λ lines. Some (aside_text lines.at lines.aside) };
 
-impl fmt::Display for PairLines {
-    ghost output = { λ lines. Some (aside_lines lines.0) };
-
-    #[tactic(auto, unfolding(crate::specs::Aside::aside_lines))]
     fn fmt<W: fmt::Write>(&self, f: &mut fmt::Formatter<W>) -> fmt::Result {
-        let Aside { sent, received } = self.0;
-        write!(
-            f,
-            "sent left aside {sent}\nreceived left aside {received}\n"
-        )
-    }
-}
-
-/// The line of a place, behind its name.
-#[derive(Clone, Copy)]
-struct PlaceLine(Aside);
-
-impl fmt::Display for PlaceLine {
-    ghost output = { λ line. Some (aside_line line.0) };
-
-    #[tactic(auto, unfolding(crate::specs::Aside::aside_line))]
-    fn fmt<W: fmt::Write>(&self, f: &mut fmt::Formatter<W>) -> fmt::Result {
-        let Aside { sent, received } = self.0;
-        write!(
-            f,
-            ": sent left aside {sent}, received left aside {received}\n"
-        )
+        match self.at {
+            None => {
+                let lines = self.sides("\n");
+                write!(f, "{lines}\n")
+            }
+            Some(tap) => {
+                let line = self.sides(", ");
+                write!(f, "{tap}: {line}\n")
+            }
+        }
     }
 }

@@ -1,8 +1,9 @@
 //! How many records were sent, were received, and are both.
 ghost use Rattle.std.specs.Prelude.{◌≡◌, ◌-◌, Some};
-ghost use Rattle.compare_lines.specs.Counts.{counts_of, counts_text, is_none, is_same, no_counts, pair_all, pair_alone, pair_lines};
-ghost use Rattle.compare_lines.specs.Counts.{place_all, place_alone, place_line, sum_of, sums_of};
+ghost use Rattle.compare_lines.specs.Counts.{all_words, count_words, counts_of, counts_text, is_none, is_same, no_counts};
+ghost use Rattle.compare_lines.specs.Counts.{sum_of, sums_of};
 
+use crate::sides::Sides;
 use record_match::Comparison;
 use std::fmt;
 use timeline::Tap;
@@ -46,6 +47,19 @@ impl Counts {
             sent: sum_of(self.sent, other.sent),
             received: sum_of(self.received, other.received),
             both: sum_of(self.both, other.both),
+        }
+    }
+
+    /// The counts in words, behind `front` and with `between` between each two.
+    fn words(self, front: &'static str, between: &'static str) -> CountWords
+        ensures front { result.front.now ≡ front.now }
+        ensures between { result.between.now ≡ between.now }
+        ensures counts { result.counts ≡ self }
+    {
+        CountWords {
+            front,
+            between,
+            counts: self,
         }
     }
 
@@ -104,10 +118,10 @@ impl fmt::Display for CountLines {
     ghost output = { λ lines. Some (counts_text lines.scope lines.counts) };
 
     fn fmt<W: fmt::Write>(&self, f: &mut fmt::Formatter<W>) -> fmt::Result {
-        let pair = PairLines(self.counts);
-        let line = PlaceLine(self.counts);
+        let lines = self.counts.words("", "\n");
+        let line = self.counts.words(": ", ", ");
         match self.scope {
-            Scope::Pair => write!(f, "{pair}"),
+            Scope::Pair => write!(f, "{lines}"),
             Scope::Place(tap) => write!(f, "{tap}{line}"),
             Scope::All => write!(f, "all{line}"),
             Scope::Segment(vid) => write!(f, "segment {vid}{line}"),
@@ -116,108 +130,52 @@ impl fmt::Display for CountLines {
     }
 }
 
-/// The lines of two captures.
+/// `front`, the counts of all records and of those of one capture alone, with `between` between each two, and a line feed.
 #[derive(Clone, Copy)]
-struct PairLines(Counts);
+struct CountWords {
+    front: &'static str,
+    between: &'static str,
+    counts: Counts,
+}
 
-impl fmt::Display for PairLines {
-    ghost output = { λ line. Some (pair_lines line.0) };
+impl fmt::Display for CountWords {
+    ghost output = { λ words. Some (count_words words.front.now words.between.now words.counts) };
 
     fn fmt<W: fmt::Write>(&self, f: &mut fmt::Formatter<W>) -> fmt::Result {
-        let all = PairAll(self.0);
-        let alone = PairAlone {
-            sent: alone_of(self.0.sent, self.0.both),
-            received: alone_of(self.0.received, self.0.both),
+        let CountWords {
+            front,
+            between,
+            counts,
+        } = *self;
+        let all = AllWords(*self);
+        let alone = Sides {
+            word: "alone",
+            between,
+            sent: alone_of(counts.sent, counts.both),
+            received: alone_of(counts.received, counts.both),
         };
-        write!(f, "{all}{alone}")
+        write!(f, "{front}{all}{between}{alone}\n")
     }
 }
 
-/// The lines of all records of two captures.
+/// The counts of all records.
 #[derive(Clone, Copy)]
-struct PairAll(Counts);
+struct AllWords(CountWords);
 
-impl fmt::Display for PairAll {
-    ghost output = { λ line. Some (pair_all line.0) };
+impl fmt::Display for AllWords {
+    ghost output = { λ all. Some (all_words all.0.between.now all.0.counts) };
 
-    #[tactic(auto, unfolding(crate::specs::Counts::pair_all))]
+    #[tactic(auto, unfolding(crate::specs::Counts::all_words))]
     fn fmt<W: fmt::Write>(&self, f: &mut fmt::Formatter<W>) -> fmt::Result {
+        let between = self.0.between;
         let Counts {
             sent,
             received,
             both,
-        } = self.0;
-        write!(f, "sent {sent}\nreceived {received}\nboth {both}\n")
-    }
-}
-
-/// The lines of the records of one of two captures alone.
-#[derive(Clone, Copy)]
-struct PairAlone {
-    sent: u64,
-    received: u64,
-}
-
-impl fmt::Display for PairAlone {
-    ghost output = { λ line. Some (pair_alone line.sent line.received) };
-
-    #[tactic(auto, unfolding(crate::specs::Counts::pair_alone))]
-    fn fmt<W: fmt::Write>(&self, f: &mut fmt::Formatter<W>) -> fmt::Result {
-        let sent = self.sent;
-        let received = self.received;
-        write!(f, "sent alone {sent}\nreceived alone {received}\n")
-    }
-}
-
-/// The line of a place, behind its name.
-#[derive(Clone, Copy)]
-struct PlaceLine(Counts);
-
-impl fmt::Display for PlaceLine {
-    ghost output = { λ line. Some (place_line line.0) };
-
-    fn fmt<W: fmt::Write>(&self, f: &mut fmt::Formatter<W>) -> fmt::Result {
-        let all = PlaceAll(self.0);
-        let alone = PlaceAlone {
-            sent: alone_of(self.0.sent, self.0.both),
-            received: alone_of(self.0.received, self.0.both),
-        };
-        write!(f, "{all}{alone}")
-    }
-}
-
-/// What the line of a place tells of all records.
-#[derive(Clone, Copy)]
-struct PlaceAll(Counts);
-
-impl fmt::Display for PlaceAll {
-    ghost output = { λ line. Some (place_all line.0) };
-
-    #[tactic(auto, unfolding(crate::specs::Counts::place_all))]
-    fn fmt<W: fmt::Write>(&self, f: &mut fmt::Formatter<W>) -> fmt::Result {
-        let Counts {
-            sent,
-            received,
-            both,
-        } = self.0;
-        write!(f, ": sent {sent}, received {received}, both {both}")
-    }
-}
-
-/// What the line of a place tells of the records of one capture alone.
-#[derive(Clone, Copy)]
-struct PlaceAlone {
-    sent: u64,
-    received: u64,
-}
-
-impl fmt::Display for PlaceAlone {
-    ghost output = { λ line. Some (place_alone line.sent line.received) };
-
-    #[tactic(auto, unfolding(crate::specs::Counts::place_alone))]
-    fn fmt<W: fmt::Write>(&self, f: &mut fmt::Formatter<W>) -> fmt::Result {
-        let sent = self.sent;
-        let received = self.received;
-        write!(f, ", sent alone {sent}, received alone {received}\n")
+        } = self.0.counts;
+        write!(
+            f,
+            "sent {sent}{between}received {received}{between}both {both}"
+        )
     }
 }

@@ -1,8 +1,9 @@
 //! The lines of a table by length.
 ghost use Rattle.std.specs.Prelude.{Some};
-ghost use Rattle.compare_lines.specs.Tables.{length_line, row_words};
+ghost use Rattle.compare_lines.specs.Tables.{length_line};
 
 use crate::place::AtPlace;
+use crate::sides::Sides;
 use compare_tables::LengthRow;
 use std::fmt;
 use timeline::Tap;
@@ -22,28 +23,13 @@ impl fmt::Display for LengthLine {
     fn fmt<W: fmt::Write>(&self, f: &mut fmt::Formatter<W>) -> fmt::Result {
         let at = AtPlace(self.at);
         let length = self.length;
-        let row = RowWords(self.row);
-        write!(f, "{at}length {length}: {row}\n")
-    }
-}
-
-/// How many records of a length are both, and of one capture alone.
-#[derive(Clone, Copy)]
-struct RowWords(LengthRow);
-
-impl fmt::Display for RowWords {
-    ghost output = { λ words. Some (row_words words.0) };
-
-    #[tactic(auto, unfolding(crate::specs::Tables::row_words))]
-    fn fmt<W: fmt::Write>(&self, f: &mut fmt::Formatter<W>) -> fmt::Result {
-        let LengthRow {
-            both,
-            sent_alone,
-            received_alone,
-        } = self.0;
-        write!(
-            f,
-            "both {both}, sent alone {sent_alone}, received alone {received_alone}"
-        )
+        let both = self.row.both;
+        let alone = Sides {
+            word: "alone",
+            between: ", ",
+            sent: self.row.sent_alone,
+            received: self.row.received_alone,
+        };
+        write!(f, "{at}length {length}: both {both}, {alone}\n")
     }
 }

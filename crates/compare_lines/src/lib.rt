@@ -4,7 +4,7 @@
 //! were left aside, [`AsideLines`], and the lines of tables, [`LengthLine`] and [`DelayLines`]. Each prints as its text. Nothing is
 //! compared here.
 //!
-//! Specs to read: `specs/Counts`, `specs/Aside`, `specs/Lonely`, `specs/Tables`.
+//! Specs to read: `specs/Sides`, `specs/Counts`, `specs/Aside`, `specs/Lonely`, `specs/Tables`.
 //!
 //! Proved: the texts, octet for octet.
 #![tactic(auto)]
@@ -16,6 +16,7 @@ mod lengths;
 mod lonely;
 mod lonely_line;
 mod place;
+mod sides;
 
 pub use aside::AsideLines;
 pub use counts::{CountLines, Counts, Scope};

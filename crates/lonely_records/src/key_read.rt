@@ -1,7 +1,8 @@
 //! What a packet carries, read back from its key.
-ghost use Rattle.std.specs.Prelude.{◌≡◌, MatchOption, None, Some, length};
+ghost use Rattle.std.specs.Prelude.{◌≡◌, MatchOption, None, Some};
 ghost use Rattle.lonely_records.specs.KeyRead.{addr_by, addr_split, counted_split, key_read, kind_by, read_behind, vni_split};
 
+use crate::octets::array_of;
 use carried_key::Tunnelled;
 use ip_udp_view::{Addr, Tunnel};
 use vxlan_head::Vni;
@@ -91,30 +92,10 @@ fn addr_by(octets: &[u8]) -> Option<Addr>
     ensures { result ≡ addr_by octets.now }
 {
     match octets.len() {
-        4 => Some(Addr::V4(four(octets))),
-        16 => Some(Addr::V6(sixteen(octets))),
+        4 => Some(Addr::V4(array_of(octets))),
+        16 => Some(Addr::V6(array_of(octets))),
         _ => None,
     }
-}
-
-/// Four octets.
-fn four(octets: &[u8]) -> [u8; 4]
-    requires { length octets.now ≡ 4 }
-    ensures { result ≡ octets.now }
-{
-    let mut found = [0; 4];
-    found.copy_from_slice(octets);
-    found
-}
-
-/// Sixteen octets.
-fn sixteen(octets: &[u8]) -> [u8; 16]
-    requires { length octets.now ≡ 16 }
-    ensures { result ≡ octets.now }
-{
-    let mut found = [0; 16];
-    found.copy_from_slice(octets);
-    found
 }
 
 /// The VNI in front of a text, and what stands behind it.

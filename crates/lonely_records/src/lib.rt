@@ -19,6 +19,7 @@ mod frame;
 mod key_read;
 pub mod laws;
 mod near;
+mod octets;
 mod segment;
 mod words;
 

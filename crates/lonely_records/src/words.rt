@@ -1,9 +1,9 @@
 //! The words of kinds, tags and addresses.
-ghost use Rattle.std.specs.Prelude.{◌≡◌, ◌≤◌, ◌<◌, ◌+◌, Some, length};
-ghost use Rattle.header_octets.specs.Octets.{part};
+ghost use Rattle.std.specs.Prelude.{◌≡◌, ◌<◌, Some};
 ghost use Rattle.lonely_records.specs.Words.{addr_word, eight_word, hex_octet, ip4_word, ip6_word, kind_word};
 ghost use Rattle.lonely_records.specs.Words.{pair_word, tag_word, vni_word};
 
+use crate::octets::array_of;
 use ip_udp_view::{Addr, Tunnel};
 use std::fmt;
 use vxlan_head::Vni;
@@ -97,20 +97,10 @@ impl fmt::Display for Ip6Word {
     ghost output = { λ word. Some (ip6_word word.0) };
 
     fn fmt<W: fmt::Write>(&self, f: &mut fmt::Formatter<W>) -> fmt::Result {
-        let front = EightWord(eight_at(&self.0, 0));
-        let back = EightWord(eight_at(&self.0, 8));
+        let front = EightWord(array_of(&self.0[..8]));
+        let back = EightWord(array_of(&self.0[8..]));
         write!(f, "{front}:{back}")
     }
-}
-
-/// The eight octets that stand at a place.
-fn eight_at(octets: &[u8], place: usize) -> [u8; 8]
-    requires { place + 8 ≤ length octets.now }
-    ensures { result ≡ part place 8 octets.now }
-{
-    let mut found = [0; 8];
-    found.copy_from_slice(&octets[place..place + 8]);
-    found
 }
 
 /// Four groups.

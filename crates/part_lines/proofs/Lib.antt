@@ -1,3 +1,4 @@
+pub mod Addresses
 pub mod Splits
 pub mod Fronts
 pub mod Outcomes

@@ -46,20 +46,20 @@ ended body =
 
 -- ---- six fields
 
-six : List ℕ → List ℕ → List ℕ → List ℕ → List ℕ → List ℕ → List ℕ
+unfoldable pub six : List ℕ → List ℕ → List ℕ → List ℕ → List ℕ → List ℕ → List ℕ
 six a b c d s r = a ++ 32 ∷ (b ++ 32 ∷ (c ++ 32 ∷ (d ++ 32 ∷ (s ++ 32 ∷ r))))
 
-flat_six : (a b c d s r : List ℕ) → a ++ 32 ∷ [] ++ b ++ 32 ∷ [] ++ c ++ 32 ∷ [] ++ d ++ 32 ∷ [] ++ ((s ++ 32 ∷ [] ++ r) ++ 10 ∷ []) ≡ six a b c d s r ++ 10 ∷ []
+pub flat_six : (a b c d s r : List ℕ) → a ++ 32 ∷ [] ++ b ++ 32 ∷ [] ++ c ++ 32 ∷ [] ++ d ++ 32 ∷ [] ++ ((s ++ 32 ∷ [] ++ r) ++ 10 ∷ []) ≡ six a b c d s r ++ 10 ∷ []
 unfolding six
 flat_six a b c d s r = simp append_assoc refl
 
 -- words without a space
-record AreWords (a b c d s : List ℕ) : Type 0 where
-  first : lacks 32 a ≡ true
-  second : lacks 32 b ≡ true
-  third : lacks 32 c ≡ true
-  fourth : lacks 32 d ≡ true
-  fifth : lacks 32 s ≡ true
+pub record AreWords (a b c d s : List ℕ) : Type 0 where
+  pub first : lacks 32 a ≡ true
+  pub second : lacks 32 b ≡ true
+  pub third : lacks 32 c ≡ true
+  pub fourth : lacks 32 d ≡ true
+  pub fifth : lacks 32 s ≡ true
 
 not_cut : (a : List ℕ) (n : ℕ) → number_of a ≡ Some n → is_same a (codes "cut") ≡ false
 not_cut a n e = by (is_same a (codes "cut")) refl

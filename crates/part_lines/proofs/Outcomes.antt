@@ -1,5 +1,5 @@
 -- The texts of places and outcomes.
-use Rattle.std.proofs.Common.{◌≡◌, ◌≢◌, ℕ, suc, ◌+◌, ◌/◌, ◌%◌, ◌^◌, ◌<◌, Bool, true, false, cond, eqb, nat_lt, List, [], ◌∷◌, ◌++◌, length, drop, Some, Result, Ok, Err, IfOk, None, refl, ap, ◌∙◌, arith, append_assoc, lit<}
+use Rattle.std.proofs.Common.{◌≡◌, ℕ, ◌+◌, ◌/◌, ◌%◌, ◌^◌, ◌<◌, Bool, true, false, cond, eqb, nat_lt, List, [], ◌∷◌, ◌++◌, length, Some, Result, Ok, Err, IfOk, None, refl, ap, ◌∙◌, arith, append_assoc, lit<}
 use Rattle.std.specs.Prelude.{codes, is_some}
 use Rattle.std.specs.Option.{option_and_then, option_map_or}
 use Rattle.std.specs.Fmt.{decimal}
@@ -8,7 +8,7 @@ use Rattle.std.proofs.lemmas.Bool.{cond-true}
 use Rattle.std.proofs.lemmas.Bool.Decides.{nat_tests}
 use Rattle.std.proofs.lemmas.Fmt.{decimal_nonempty}
 use Rattle.std.proofs.lemmas.List.{append-nil}
-use Rattle.header_octets.specs.Octets.{IsText, octet}
+use Rattle.header_octets.specs.Octets.{octet}
 use Rattle.frame_view.specs.Reason.{number_of, name_of}
 use Rattle.frame_view.specs.declared.reason.Reason.{Reason}
 use Rattle.frame_view.specs.declared.reason.Reason.TheVariants.{TooLong, Sliced, Runt, PortDown, BadSource, Reserved, CutTag, BadVid, FrameType, NoSegment, NotMember, NotIp, BadIp, BadIpSum, BadOuterSource, NotForUs, Fragment, NotUdp, BadUdp, NotTunnel, ZeroSum, BadUdpSum, ShortTunnel, NoVniFlag, BadVersion, Control, NotEthernet, BadOptions, CriticalOption, UnknownVni, WrongGroup, UnknownPeer, InnerRunt, InnerTag, SamePlace, Horizon, Unreachable, NoOutlet, TooBig, InnerTagOut}
@@ -23,19 +23,17 @@ use Rattle.endpoint_core.specs.Decision.{Sent}
 use Rattle.endpoint_core.specs.Text.{hex_digit, hex_octet, grouped, addr_text, kind_text, place_text, sent_text, outcome_text, further_text, outcomes_text}
 use Rattle.timeline.specs.declared.source.Tap.TheVariants.{Port, Underlay}
 use Rattle.line_words.specs.Numbers.{number_of as number_in}
-use Rattle.line_words.proofs.Decimals.{IsNoDigit, lacks, lacks_decimal, lacks_more, lacks_one, number_decimal}
+use Rattle.line_words.proofs.Decimals.{IsNoDigit, lacks, lacks_decimal, lacks_more, number_decimal}
 use Rattle.part_lines.specs.Sent.{has_places, is_sound, port_at, sent_by, sent_in, tap_of}
 use Rattle.part_lines.specs.ReadBack.{IsOutcome, IsPlace, taken_at, taken_by, tap_at}
+use Rattle.part_lines.proofs.Addresses.{addr_lacks, equals_apart, p_apart, space_apart}
 use Rattle.part_lines.proofs.Fronts.{equals_front, places_front, places_whole, sent_front, sent_whole, unsent, unsent_front, unsent_sound, unsent_whole}
 
 pub no_space : IsNoDigit 32
-no_space d low e = omega (arith, e)
+no_space = space_apart.digit
 
 pub no_equals : IsNoDigit 61
-no_equals d low e = omega (arith, e)
-
-no_p : IsNoDigit 112
-no_p d low e = omega (arith, e)
+no_equals = equals_apart.digit
 
 -- ---- names
 
@@ -127,66 +125,6 @@ number_small Unreachable = lit< tt
 number_small NoOutlet = lit< tt
 number_small TooBig = lit< tt
 number_small InnerTagOut = lit< tt
-
--- ---- addresses
-
--- it stands in no address
-record IsApart (s : ℕ) : Type 0 where
-  digit : IsNoDigit s
-  letter : (d : ℕ) → d < 16 → 87 + d ≢ s
-  dot : 46 ≢ s
-  colon : 58 ≢ s
-
-space_apart : IsApart 32
-space_apart = record { digit = no_space; letter = λ d low e. omega (arith, e); dot = λ e. omega (arith, e); colon = λ e. omega (arith, e) }
-
-equals_apart : IsApart 61
-equals_apart = record { digit = no_equals; letter = λ d low e. omega (arith, e); dot = λ e. omega (arith, e); colon = λ e. omega (arith, e) }
-
-p_apart : IsApart 112
-p_apart = record { digit = no_p; letter = λ d low e. omega (arith, e); dot = λ e. omega (arith, e); colon = λ e. omega (arith, e) }
-
-hex_lacks : (s d : ℕ) → IsApart s → d < 16 → lacks s (hex_digit d ∷ []) ≡ true
-hex_lacks s d a low = by (nat_lt d 10) refl
-  where
-    by : (q : Bool) → nat_lt d 10 ≡ q → lacks s (cond q (48 + d) (87 + d) ∷ []) ≡ true
-    by true e = lacks_one s (48 + d) (a.digit d (grind (arith, nat_tests)))
-    by false e = lacks_one s (87 + d) (a.letter d low)
-
-octet_lacks : (s n : ℕ) → IsApart s → n < 256 → lacks s (hex_octet n) ≡ true
-octet_lacks s n a low = lacks_more s (hex_digit (n / 16) ∷ []) (hex_digit (n % 16) ∷ []) (hex_lacks s (n / 16) a (omega arith)) (hex_lacks s (n % 16) a (omega arith))
-
-grouped_lacks : (s : ℕ) (b : List ℕ) → IsApart s → IsText b → lacks s (grouped b) ≡ true
-grouped_lacks s [] a t = refl
-grouped_lacks s (x ∷ []) a t = refl
-grouped_lacks s (x ∷ y ∷ b) a t =
-    lacks_more s (58 ∷ hex_octet x ++ hex_octet y) (grouped b)
-    (lacks_more s (58 ∷ hex_octet x) (hex_octet y) (lacks_more s (58 ∷ []) (hex_octet x) (lacks_one s 58 a.colon) (octet_lacks s x a (t 0))) (octet_lacks s y a (t 1)))
-    (grouped_lacks s b a (λ i. t (suc (suc i))))
-
-tail_lacks : (s : ℕ) (t : List ℕ) → lacks s t ≡ true → lacks s (drop 1 t) ≡ true
-tail_lacks s [] h = refl
-tail_lacks s (c ∷ cs) h = by (eqb c s) h
-  where
-    by : (q : Bool) → cond q false (lacks s cs) ≡ true → lacks s cs ≡ true
-    by true k = absurd cc
-    by false k = k
-
-byte_lacks : (s : ℕ) (b : List ℕ) (i : ℕ) → IsApart s → IsText b → lacks s (decimal (octet i b)) ≡ true
-byte_lacks s b i a t = lacks_decimal s (octet i b) a.digit (omega (arith, t i))
-
-addr_lacks : (s : ℕ) (addr : Addr) → IsApart s → IsAddr addr → lacks s (addr_text addr) ≡ true
-addr_lacks s (V4 b) a h =
-    let t = h.1 in
-    let point = lacks_one s 46 a.dot in
-    lacks_more s (decimal (octet 0 b) ++ codes "." ++ decimal (octet 1 b) ++ codes "." ++ decimal (octet 2 b) ++ codes ".") (decimal (octet 3 b))
-    (lacks_more s (decimal (octet 0 b) ++ codes "." ++ decimal (octet 1 b) ++ codes "." ++ decimal (octet 2 b)) (codes ".")
-    (lacks_more s (decimal (octet 0 b) ++ codes "." ++ decimal (octet 1 b) ++ codes ".") (decimal (octet 2 b))
-    (lacks_more s (decimal (octet 0 b) ++ codes "." ++ decimal (octet 1 b)) (codes ".")
-    (lacks_more s (decimal (octet 0 b) ++ codes ".") (decimal (octet 1 b))
-    (lacks_more s (decimal (octet 0 b)) (codes ".") (byte_lacks s b 0 a t) point)
-    (byte_lacks s b 1 a t)) point) (byte_lacks s b 2 a t)) point) (byte_lacks s b 3 a t)
-addr_lacks s (V6 b) a h = tail_lacks s (grouped b) (grouped_lacks s b a h.1)
 
 -- ---- places
 

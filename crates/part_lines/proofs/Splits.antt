@@ -1,15 +1,15 @@
 -- Words of a text, one at a time.
-use Rattle.std.proofs.Common.{◌≡◌, ◌≢◌, ℕ, zero, suc, ◌+◌, ◌-◌, ◌<◌, All, Bool, true, false, cond, eqb, List, [], ◌∷◌, length, take, drop, get_or, Some, None, option_map, ap, ap₂, refl, sym, ◌∙◌, arith}
+use Rattle.std.proofs.Common.{◌≡◌, ◌≢◌, ℕ, zero, suc, ◌+◌, ◌-◌, ◌<◌, All, Bool, true, false, cond, eqb, List, [], ◌∷◌, length, take, drop, get_or, Option, Some, None, option_map, ap, ap₂, refl, sym, ◌∙◌, arith}
 use Rattle.std.specs.Prelude.{◌&&◌}
 use Rattle.std.specs.List.{filter_map, cons_option, count_by, list_all}
 use Rattle.std.proofs.lemmas.Bool.{eq-eqb, ne_eqb, cond-true, cond-false}
-use Rattle.std.proofs.lemmas.List.{drop-drop, get_or-drop, length-drop}
-use Rattle.std.proofs.lemmas.List.Elements.{All-from_get_or, All-head, All-tail}
+use Rattle.std.proofs.lemmas.List.{drop-drop}
+use Rattle.std.proofs.lemmas.List.Elements.{All-head, All-tail}
 use Rattle.std.proofs.lemmas.List.Sums.{sum_by-cons}
 use Rattle.line_words.specs.Places.{IsFirst, LacksFrom}
 use Rattle.timeline.specs.declared.source.Tap.{Tap}
 use Rattle.line_words.specs.Words.{word, behind}
-use Rattle.line_words.proofs.Splits.{IsNot}
+use Rattle.line_words.proofs.Splits.{IsNot, left_before, left_here, left_inside, none_from}
 use Rattle.part_lines.specs.Words.{words, begun_by, before_equals}
 use Rattle.part_lines.specs.Sent.{has_places, is_sound, sent_by, sent_in}
 
@@ -27,16 +27,11 @@ before_at (c ∷ cs) (suc i) inside here before =
     cond-false _ _ _ (ne_eqb c 61 (before 0 (omega arith))) ∙ ap (option_map (λ w. c ∷ w)) (before_at cs i (omega arith) here (λ k lt. before (suc k) (omega arith)))
 
 pub equals_lacks : (text : List ℕ) (from : ℕ) → LacksFrom 61 text from → before_equals (drop from text) ≡ None
-equals_lacks text from lacks =
-    before_none (drop from text)
-    (All-from_get_or (IsNot 61) (drop from text) 0 (λ k lt e. lacks (from + k) (omega arith) (omega (arith, lt, length-drop from text)) (sym (get_or-drop from text k 0) ∙ e)))
+equals_lacks text from lacks = before_none (drop from text) (none_from 61 text from lacks)
 
 pub equals_found : (text : List ℕ) (from at : ℕ) → IsFirst 61 text from at → before_equals (drop from text) ≡ Some (take (at - from) (drop from text))
 equals_found text from at first =
-    let there : from + (at - from) ≡ at = omega (arith, first.low) in
-    before_at (drop from text) (at - from) (omega (arith, length-drop from text, first.inside, first.low))
-    (get_or-drop from text (at - from) 0 ∙ ap (λ k. get_or text k 0) there ∙ first.here)
-    (λ k lt e. first.before (from + k) (omega arith) (omega (arith, lt)) (sym (get_or-drop from text k 0) ∙ e))
+    before_at (drop from text) (at - from) (left_inside 61 text from at first) (left_here 61 text from at first) (left_before 61 text from at first)
 
 -- ---- the spaces
 
@@ -58,18 +53,13 @@ one_space (c ∷ cs) (suc i) inside here before =
     omega (arith, first, none, more)
 
 pub spaces_lacks : (text : List ℕ) (from : ℕ) → LacksFrom 32 text from → count_by (λ c. eqb c 32) (drop from text) ≡ 0
-spaces_lacks text from lacks =
-    no_spaces (drop from text)
-    (All-from_get_or (IsNot 32) (drop from text) 0 (λ k lt e. lacks (from + k) (omega arith) (omega (arith, lt, length-drop from text)) (sym (get_or-drop from text k 0) ∙ e)))
+spaces_lacks text from lacks = no_spaces (drop from text) (none_from 32 text from lacks)
 
 pub spaces_found : (text : List ℕ) (from at : ℕ) → IsFirst 32 text from at
     → count_by (λ c. eqb c 32) (drop from text) ≡ count_by (λ c. eqb c 32) (drop (at + 1) text) + 1
 spaces_found text from at first =
-    let there : from + (at - from) ≡ at = omega (arith, first.low) in
     let next : from + suc (at - from) ≡ at + 1 = omega (arith, first.low) in
-    let one = one_space (drop from text) (at - from) (omega (arith, length-drop from text, first.inside, first.low))
-    (get_or-drop from text (at - from) 0 ∙ ap (λ k. get_or text k 0) there ∙ first.here)
-    (λ k lt e. first.before (from + k) (omega arith) (omega (arith, lt)) (sym (get_or-drop from text k 0) ∙ e)) in
+    let one = one_space (drop from text) (at - from) (left_inside 32 text from at first) (left_here 32 text from at first) (left_before 32 text from at first) in
     let same = ap (count_by (λ c. eqb c 32)) (drop-drop (suc (at - from)) from text ∙ ap (λ k. drop k text) next) in
     omega (arith, one, same)
 
@@ -99,18 +89,32 @@ of_tail f none (c ∷ cs) = by (eqb c 32) (of_tail f none cs)
     by true same = refl
     by false same = same
 
--- what the first word says, and then what stands behind it
+-- what the first word gives, and then what stands behind it; an empty word gives nothing
+module _ {B : Type 0} (f : List ℕ → Option B) (none : f [] ≡ None) where
+  pub each_step : (t : List ℕ) → filter_map f (words t) ≡ cons_option (f (word t)) (filter_map f (words (behind t)))
+  each_step t = ap (filter_map f) (words_begin t) ∙ ap (cons_option (f (word t))) (of_tail (filter_map f) (sym (ap (λ o. cons_option o []) none)) t)
+
+  pub each_found : (t : List ℕ) (b : B) → f (word t) ≡ Some b → filter_map f (words t) ≡ b ∷ filter_map f (words (behind t))
+  each_found t b e = each_step t ∙ ap (λ o. cons_option o (filter_map f (words (behind t)))) e
+
+  pub each_skipped : (t : List ℕ) → f (word t) ≡ None → filter_map f (words t) ≡ filter_map f (words (behind t))
+  each_skipped t e = each_step t ∙ ap (λ o. cons_option o (filter_map f (words (behind t)))) e
+
+-- whether each word passes: the first, and those behind it
+pub all_step : (p : List ℕ → Bool) → p [] ≡ true → (t : List ℕ) → list_all p (words t) ≡ (p (word t) && list_all p (words (behind t)))
+all_step p none t = ap (list_all p) (words_begin t) ∙ ap (λ b. p (word t) && b) (of_tail (list_all p) (sym (ap (λ b. b && true) none)) t)
+
+-- ---- what was sent
+
 pub sent_step : (t : List ℕ) → sent_in t ≡ cons_option (sent_by (word t)) (sent_in (behind t))
-sent_step t = ap (filter_map sent_by) (words_begin t) ∙ ap (cons_option (sent_by (word t))) (of_tail (filter_map sent_by) refl t)
+sent_step = each_step sent_by refl
 
 pub sent_found : (t : List ℕ) (tap : Tap) → sent_by (word t) ≡ Some tap → sent_in t ≡ tap ∷ sent_in (behind t)
-sent_found t tap e = sent_step t ∙ ap (λ o. cons_option o (sent_in (behind t))) e
+sent_found = each_found sent_by refl
 
 pub sent_skipped : (t : List ℕ) → sent_by (word t) ≡ None → sent_in t ≡ sent_in (behind t)
-sent_skipped t e = sent_step t ∙ ap (λ o. cons_option o (sent_in (behind t))) e
+sent_skipped = each_skipped sent_by refl
 
--- ---- whether each word is sound
-
--- the first word and those behind it
+-- whether each word is sound
 pub places_step : (t : List ℕ) → has_places t ≡ (is_sound (word t) && has_places (behind t))
-places_step t = ap (list_all is_sound) (words_begin t) ∙ ap (λ b. is_sound (word t) && b) (of_tail (list_all is_sound) refl t)
+places_step = all_step is_sound refl

@@ -1,5 +1,5 @@
 -- What a step of a merge blames, told of where the merge began.
-use Rattle.std.proofs.Common.{◌≡◌, ◌∙◌, refl, sym, ap, subst, ℕ, ◌+◌, ◌-◌, ◌<◌, ◌==◌, ◌&&◌, nat_lt, if◌then◌else◌, Bool, true, false, List, length, map, slice_index_or, slice_set, arith, Result, Ok, Err, IsErr, MatchBool, inl, inr}
+use Rattle.std.proofs.Common.{◌≡◌, ◌∙◌, [], None, refl, sym, ap, subst, ℕ, ◌+◌, ◌-◌, ◌<◌, ◌==◌, ◌&&◌, nat_lt, Bool, true, false, cond, List, length, map, slice_index_or, slice_set, arith, Result, Ok, Err, IsErr, MatchBool, inl, inr}
 use Rattle.std.proofs.lemmas.List.{get_or-map, get_or-set_same, get_or_default, length-map, map-set, set-get_or}
 use Rattle.line_stream.specs.Lines.{IsFetched, Reader}
 use Rattle.line_stream.specs.declared.fault.LinesFault.{LinesFault}
@@ -13,7 +13,7 @@ use Rattle.pcap_stream.specs.declared.fault.SourceFault.{SourceFault}
 use Rattle.pcap_stream.specs.declared.fault.SourceFault.TheVariants as source
 use Rattle.timeline.specs.declared.source.Tap.{Tap}
 use Rattle.timeline.specs.declared.source.Tap.TheVariants.{Port, Underlay}
-use Rattle.part_merge.specs.Blame.{BlamesNoRead, BlamesNoWrite, CaptureStops, CapturesRead, CopyReads, CopyWrites, Health, Healths, LinesRead, MatchRead, MatchWrite, OutputStops, PartReads, PartStops, ReadsWith, SinkStops, SinkWrites, SourceBack, SourceReads, SourceStops, UnlessBlamed, UnlessLines, PartOpens, WritesWith, captures_health, has_given_up, is_read, outputs_health, part_health, sink_health, source_health}
+use Rattle.part_merge.specs.Blame.{BlamesNoRead, BlamesNoWrite, CaptureStops, CapturesRead, CopyReads, CopyWrites, Health, Healths, LinesRead, LinesWrite, MatchRead, MatchWrite, OutputStops, PartReads, PartStops, ReadsWith, SinkStops, SinkWrites, SourceBack, SourceReads, SourceStops, UnlessBlamed, UnlessLines, PartOpens, WritesWith, captures_health, has_given_up, is_read, outputs_health, part_health, sink_health, source_health}
 use Rattle.part_merge.specs.Coming.{OpenPart, UnlessPart, stopped_by}
 use Rattle.part_merge.specs.Copied.{TellsEnd, stop_by}
 use Rattle.part_merge.specs.Left.{IsTap, UnlessDevice, of_tap}
@@ -110,7 +110,7 @@ given_up (Open style last) = refl
 given_up (Ended is_cut) = refl
 given_up (Failed fault) = refl
 
-pub fill_reads : (old new : Stream) (result : Result (Unit {0}) SourceFault) → IsFilled old new result → result ≡ answer new.standing → FillReads old new result
+fill_reads : (old new : Stream) (result : Result (Unit {0}) SourceFault) → IsFilled old new result → result ≡ answer new.standing → FillReads old new result
 fill_reads old new result is answered = by old.standing refl is
   where
     still : new ≡ old → (result : Result (Unit {0}) SourceFault) → result ≡ answer new.standing → FillReads old new result
@@ -149,12 +149,21 @@ open_reads old new source.BadLink h = h.quiet
 open_reads old new source.TooLarge h = h.quiet
 open_reads old new source.BadFraction h = h.quiet
 
-pub stop_reads : (old new : Stream) (fault : SourceFault) → FillReads old new (Err fault) → CopyReads {T = Unit {0}} old new (Err (stop_by fault))
+stop_reads : (old new : Stream) (fault : SourceFault) → FillReads old new (Err fault) → CopyReads {T = Unit {0}} old new (Err (stop_by fault))
 stop_reads old new source.Read h = h
 stop_reads old new source.NotPcap h = h
 stop_reads old new source.BadLink h = h
 stop_reads old new source.TooLarge h = h
 stop_reads old new source.BadFraction h = h
+
+-- the source of a capture was filled, or a copy stops there
+pub filled_reads : (old inside new : Stream) (x : Unit {0}) → inside ≡ old → IsFilled {T = Unit {0}} inside new (Ok x) → Ok x ≡ answer new.standing → source_health new ≡ source_health old
+filled_reads old inside new x is filled answered = subst (λ (s : Stream). source_health new ≡ source_health s) is (fill_reads inside new (Ok x) filled answered)
+
+pub unfilled_reads : (old inside new : Stream) (fault : SourceFault) (stop : Stop) → inside ≡ old → stop ≡ stop_by fault → IsFilled {T = Unit {0}} inside new (Err fault) → Err fault ≡ answer new.standing → CopyReads {T = Unit {0}} old new (Err stop)
+unfilled_reads old inside new fault stop is stopped filled answered =
+    subst (λ (s : Stream). CopyReads {T = Unit {0}} s new (Err stop)) is
+    (subst (λ (e : Stop). CopyReads {T = Unit {0}} inside new (Err e)) (sym stopped) (stop_reads inside new fault (fill_reads inside new (Err fault) filled answered)))
 
 pub stop_writes : (d : Drain) (fault : SourceFault) → CopyWrites {T = Unit {0}} d d (Err (stop_by fault))
 stop_writes d source.Read = refl
@@ -248,6 +257,13 @@ module _ {T : Type 0} where
       (captures_health new.ports new.underlay ≡ captures_health old.ports old.underlay) (part_health new ≡ part_health old) result
       (λ n h. (h.0, inr h.1)) (λ h. rw same (ap (health old.reader.failures) h))
 
+  -- the same of a part whose captures are lent: where they stand inside it
+  pub captures_part : (part : ℕ) (old inside new : OpenPart) (ports : List Stream) (result : Result T MergeFault) → inside ≡ old → ports ≡ inside.ports → new.reader ≡ inside.reader
+      → CapturesRead part ports inside.underlay new.ports new.underlay result → PartReads part old new result
+  captures_part part old inside new ports result is same reader reads =
+      subst (λ (s : OpenPart). PartReads part s new result) is
+      (part_reads part inside new result reader (subst (λ (l : List Stream). CapturesRead part l inside.underlay new.ports new.underlay result) same reads))
+
 -- ---- a part
 
 pub part_stops : (old mid new : OpenPart) → part_health mid ≡ part_health old → PartStops mid new → PartStops old new
@@ -334,21 +350,36 @@ module _ {T : Type 0} where
       (sink_health d ≡ sink_health underlay) (outputs_health sinks d failures ≡ outputs_health sinks underlay failures) result
       (λ t h. rw h.0 (tt, h.1)) (λ h. ap (λ u. health failures (healths (map sink_health sinks) u)) h)
 
+  -- the capture of a port in a loop over them: no output failed before
+  pub ports_writes : (old sinks : List Drain) (underlay d x : Drain) (failures i : ℕ) (result : Result T MergeFault) → map sink_health sinks ≡ map sink_health old → i < length sinks
+      → SinkWrites (Port (i + 1)) (slice_index_or sinks i x) d result → WritesWith old underlay failures (slice_set sinks i d) underlay failures result
+  ports_writes old sinks underlay d x failures i result same there writes =
+      writes_behind old underlay failures sinks underlay failures (slice_set sinks i d) underlay failures result (ap (λ l. health failures (healths l (sink_health underlay))) same)
+      (place_writes sinks underlay d x failures i (i + 1) result there refl writes)
+
+  -- the lines alone were written
+  pub lines_writes : (failures failures_mid failures_now : ℕ) (result : Result T MergeFault) → failures_mid ≡ failures → LinesWrite failures_mid failures_now result → LinesWrite failures failures_now result
+  lines_writes failures failures_mid failures_now result same writes = λ sinks underlay.
+      writes_behind sinks underlay failures sinks underlay failures_mid sinks underlay failures_now result (ap (outputs_health sinks underlay) same) (writes sinks underlay)
+
+-- where no output failed, the lines' didn't
+pub lines_alone : (failures failures_now : ℕ) → LinesWrite {T = Unit {0}} failures failures_now (Ok tt) → failures_now ≡ failures
+lines_alone failures failures_now same = ap (λ (h : Health). h.lines) (same [] nowhere)
+  where
+    nowhere : Drain
+    nowhere = record { written = None; failures = 0; is_failed = false; held = [] }
+
 -- ---- numbers that fall
 
-pub behind_no_read : (last part number : ℕ) → BlamesNoRead {T = Unit {0}} (Err (behind last part number))
-behind_no_read last part number = by (number == last && nat_lt 0 number)
+pub behind_blames_none : (last part number : ℕ) → BlamesNoRead {T = Unit {0}} (Err (behind last part number)) × BlamesNoWrite {T = Unit {0}} (Err (behind last part number))
+behind_blames_none last part number = by (number == last && nat_lt 0 number)
   where
-    by : (b : Bool) → BlamesNoRead {T = Unit {0}} (Err (if b then faults.Part part (part_faults.Doubled number) else faults.Part part (part_faults.Falls number)))
-    by true = tt
-    by false = tt
+    falls : Bool → MergeFault
+    falls b = cond b (faults.Part part (part_faults.Doubled number)) (faults.Part part (part_faults.Falls number))
 
-pub behind_no_write : (last part number : ℕ) → BlamesNoWrite {T = Unit {0}} (Err (behind last part number))
-behind_no_write last part number = by (number == last && nat_lt 0 number)
-  where
-    by : (b : Bool) → BlamesNoWrite {T = Unit {0}} (Err (if b then faults.Part part (part_faults.Doubled number) else faults.Part part (part_faults.Falls number)))
-    by true = tt
-    by false = tt
+    by : (b : Bool) → BlamesNoRead {T = Unit {0}} (Err (falls b)) × BlamesNoWrite {T = Unit {0}} (Err (falls b))
+    by true = (tt, tt)
+    by false = (tt, tt)
 
 -- ---- the whole
 

@@ -1,5 +1,5 @@
 -- What is held back, handed on behind an event: nothing more was written.
-use Rattle.std.proofs.Common.{◌≡◌, refl, sym, subst, ℕ, ◌<◌, ◌-◌, Bool, true, false, List, length, slice_index_or, slice_set, arith, Result, Ok, Err, IsErr, MatchBool, inl, inr}
+use Rattle.std.proofs.Common.{◌≡◌, [], refl, sym, subst, ℕ, ◌<◌, ◌-◌, Bool, true, false, List, length, slice_index_or, slice_set, arith, Result, Ok, Err, IsErr, MatchBool, inl, inr}
 use Rattle.std.proofs.KnownBytes.{Appends-kept, Keeps-refl, Keeps-trans}
 use Rattle.std.proofs.lemmas.Bool.{cases_eq}
 use Rattle.std.proofs.lemmas.List.{get_or-set_other, get_or-set_same, get_or_default}
@@ -15,16 +15,17 @@ use Rattle.part_merge.proofs.Blaming.{PutWrites}
 -- ---- one output
 
 module _ {T E : Type 0} where
-  pub handed_keeps : (old new : Drain) (result : Result T E) → IsHandedOn old new result → OnOk result (Keeps old.written new.written)
-  handed_keeps old new result handed = by old.is_failed result handed
+  -- it holds what it held, and nothing back
+  pub handed_on : (old new : Drain) (result : Result T E) → IsHandedOn old new result → OnOk result (Keeps old.written new.written × (new.held ≡ []))
+  handed_on old new result handed = by old.is_failed result handed
     where
-      failed : (result : Result T E) → IsErr result → OnOk result (Keeps old.written new.written)
+      failed : (result : Result T E) → IsErr result → OnOk result (Keeps old.written new.written × (new.held ≡ []))
       failed (Ok x) never = absurd cc
       failed (Err e) is = tt
 
-      by : (b : Bool) (result : Result T E) → MatchBool b (IsErr result × (new ≡ old)) (HandsOn old new result) → OnOk result (Keeps old.written new.written)
+      by : (b : Bool) (result : Result T E) → MatchBool b (IsErr result × (new ≡ old)) (HandsOn old new result) → OnOk result (Keeps old.written new.written × (new.held ≡ []))
       by true result h = failed result h.0
-      by false (Ok x) h = h.2
+      by false (Ok x) h = (h.2, h.3)
       by false (Err e) h = tt
 
   pub handed_writes : (old new : Drain) (result : Result T E) → IsHandedOn old new result → PutWrites old new result

@@ -1,5 +1,5 @@
 -- What a fetch lends of the lines of a part, and what that line is of.
-use Rattle.std.proofs.Common.{◌≡◌, ◌≢◌, ◌∙◌, refl, sym, ap, subst, ℕ, suc, ◌+◌, ◌<◌, ◌≤◌, Bool, true, false, List, [], ◌∷◌, ◌++◌, length, length-append, get_or, append_assoc, arith, Option, Some, IfSome, Result, Ok, Err}
+use Rattle.std.proofs.Common.{◌≡◌, ◌≢◌, ◌∙◌, refl, sym, ap, subst, ℕ, suc, ◌+◌, ◌<◌, ◌≤◌, Bool, true, false, List, [], ◌∷◌, ◌++◌, length, length-append, get_or, append_assoc, arith, Option, Some, IfSome, Ok, Err}
 use Rattle.std.proofs.lemmas.Bool.{ne_eqb, cond-false}
 use Rattle.std.specs.List.{concat}
 use Rattle.line_stream.specs.Lines.{IsFetched, IsLong, Reader, behind_line, first_line}
@@ -8,7 +8,7 @@ use Rattle.line_stream.specs.declared.fault.LinesFault.TheVariants as lines
 use Rattle.pcap_stream.specs.Source.{Stream}
 use Rattle.part_lines.specs.Facts.{facts_of}
 use Rattle.part_merge.specs.Coming.{AreTexts, ComesNext, Holds, IsLine, OpenPart, StandBehind, coming_by, coming_in, is_cut, is_over, next_coming, next_line, next_rest, stopped_by}
-use Rattle.part_merge.specs.Left.{AreLeft, IsDeviceFault, UnlessDevice}
+use Rattle.part_merge.specs.Left.{AreLeft, IsDeviceFault}
 use Rattle.part_merge.specs.Merged.{Piece, capture_at, lines_in}
 use Rattle.part_merge.specs.declared.fault.MergeFault.{MergeFault}
 use Rattle.part_merge.specs.declared.coming.Coming.{Coming}
@@ -125,11 +125,6 @@ never_wrong part ports pieces cuts s new was_cut line why x stand is was line_is
     let both : Err why ≡ Ok (next_coming pieces cuts) = told ∙ told_coming part ports pieces cuts s new was_cut line x stand is was line_is in absurd cc
 
 -- ---- a part goes on
-
-module _ {T : Type 0} where
-  pub unless : (A B : Type 0) (result : Result T MergeFault) → (A → B) → UnlessDevice result A → UnlessDevice result B
-  unless A B (Ok x) f h = f h
-  unless A B (Err why) f h = h
 
 pub behind_event : (ports : ℕ) (p : Piece) (ps : List Piece) (cuts : List (List ℕ)) (s t : OpenPart) → Holds ports (p ∷ ps) cuts s → t.reader ≡ s.reader → t.coming ≡ s.coming → StandBehind ports ps cuts t
 behind_event ports p ps cuts s t holds reader comes = record {

@@ -1,12 +1,12 @@
 -- What is out where a read of a part failed.
-use Rattle.std.proofs.Common.{◌≡◌, ◌∙◌, refl, sym, ap, subst, ℕ, ◌+◌, ◌-◌, ◌<◌, Bool, true, false, List, [], length, slice_index_or, slice_set, arith, Option, Result, Ok, Err, IsErr, MatchBool, inl, inr}
+use Rattle.std.proofs.Common.{◌≡◌, ◌∙◌, refl, sym, ap, subst, ℕ, ◌+◌, ◌-◌, ◌<◌, Bool, true, false, List, [], length, slice_index_or, slice_set, arith, Option, Result, Ok, Err, inl, inr}
 use Rattle.std.proofs.KnownBytes.{Appends-kept, Appends-nil, Appends-trans, Keeps-refl}
 use Rattle.std.proofs.lemmas.Bool.{cases_eq, not-true}
 use Rattle.std.proofs.lemmas.List.{get_or-set_other, get_or-set_same, get_or_default, set-get_or}
 use Rattle.std.specs.Io.KnownBytes.{Appends, Keeps}
 use Rattle.std.specs.List.{concat}
 use Rattle.std.specs.Prelude.{OnOk, not}
-use Rattle.pcap_stream.specs.Sink.{Drain, HandsOn, IsHandedOn}
+use Rattle.pcap_stream.specs.Sink.{Drain}
 use Rattle.pcap_stream.specs.Source.{MatchRead as MatchSource, Stream, holds_next}
 use Rattle.pcap_stream.specs.declared.fault.SourceFault.{SourceFault}
 use Rattle.pcap_stream.specs.declared.fault.SourceFault.TheVariants as source
@@ -29,19 +29,6 @@ use Rattle.part_merge.specs.declared.coming.Coming.{Coming}
 use Rattle.part_merge.proofs.Blaming.{match_read}
 
 -- ---- what is handed on
-
-module _ {T E : Type 0} where
-  pub handed_out : (old new : Drain) (result : Result T E) → IsHandedOn old new result → OnOk result (new.held ≡ [])
-  handed_out old new result handed = by old.is_failed result handed
-    where
-      failed : (result : Result T E) → IsErr result → OnOk result (new.held ≡ [])
-      failed (Ok x) never = absurd cc
-      failed (Err e) is = tt
-
-      by : (b : Bool) (result : Result T E) → MatchBool b (IsErr result × (new ≡ old)) (HandsOn old new result) → OnOk result (new.held ≡ [])
-      by true result h = failed result h.0
-      by false (Ok x) h = h.3
-      by false (Err e) h = tt
 
 -- those in front of this one hold nothing back
 abbrev pub OutBefore : ℕ → List Drain → Type 0

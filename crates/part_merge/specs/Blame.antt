@@ -169,6 +169,15 @@ module _ {T : Type 0} where
       MatchWrite result (λ target. OutputStops target old old_underlay failures new new_underlay failures_now)
       (outputs_health new new_underlay failures_now ≡ outputs_health old old_underlay failures)
 
+  -- the outputs of captures alone, whatever the lines' is
+  abbrev pub CapturesWrite : List Drain → Drain → List Drain → Drain → Result T MergeFault → Type 0
+  CapturesWrite old old_underlay new new_underlay result = (failures : ℕ) → WritesWith old old_underlay failures new new_underlay failures result
+
+  -- that of the lines alone, whatever those of captures are
+  abbrev pub LinesWrite : ℕ → ℕ → Result T MergeFault → Type 0
+  LinesWrite failures failures_now result =
+      (ports : List Drain) (underlay : Drain) → WritesWith ports underlay failures ports underlay failures_now result
+
   -- no read is blamed
   abbrev pub BlamesNoRead : Result T MergeFault → Type 0
   BlamesNoRead result = MatchRead result (λ blamed. ⊥) ⊤

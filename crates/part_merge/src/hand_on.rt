@@ -10,7 +10,7 @@
 ghost use Rattle.std.specs.Prelude.{◌≡◌, ℕ, List, [], OnOk, true};
 ghost use Rattle.std.specs.Io.KnownBytes.{Keeps};
 ghost use Rattle.pcap_stream.specs.Sink.{Drain};
-ghost use Rattle.part_merge.specs.Blame.{BlamesNoRead, WritesWith};
+ghost use Rattle.part_merge.specs.Blame.{BlamesNoRead, CapturesWrite, LinesWrite, WritesWith};
 ghost use Rattle.part_merge.specs.Left.{AreKept, UnlessDevice};
 ghost use Rattle.part_merge.specs.Waiting.{AllOut, CapturesOut, PortsOut};
 
@@ -56,8 +56,7 @@ fn hand_on_lines<W: Output>(decisions: &mut W) -> Result<(), MergeFault>
     ensures kept { UnlessDevice result (Keeps (W.written decisions.old) (W.written decisions.new)) }
     ensures no_read { BlamesNoRead result }
     ensures out { OnOk result (W.held decisions.new ≡ []) }
-    ensures writes { (sinks : List Drain) (underlay_sink : Drain)
-        → WritesWith sinks underlay_sink (W.failures decisions.old) sinks underlay_sink (W.failures decisions.new) result }
+    ensures writes { LinesWrite (W.failures decisions.old) (W.failures decisions.new) result }
 {
     match decisions.hand_on_held() {
         Ok(()) => Ok(()),
@@ -73,8 +72,7 @@ fn hand_on_captures<W: Output>(
     ensures kept { UnlessDevice result (AreKept port_sinks.old underlay_sink.old port_sinks.new underlay_sink.new) }
     ensures no_read { BlamesNoRead result }
     ensures out { OnOk result (CapturesOut port_sinks.new underlay_sink.new) }
-    ensures writes { (failures : ℕ) → WritesWith port_sinks.old underlay_sink.old failures port_sinks.new underlay_sink.new
-        failures result }
+    ensures writes { CapturesWrite port_sinks.old underlay_sink.old port_sinks.new underlay_sink.new result }
 {
     if let Err(fault) = hand_on_ports(port_sinks) {
         return Err(fault);
@@ -134,8 +132,7 @@ pub(crate) fn hand_on_captures_before<W: Output>(
     ensures kept { UnlessDevice result (AreKept port_sinks.old underlay_sink.old port_sinks.new underlay_sink.new) }
     ensures no_read { BlamesNoRead result }
     ensures out { OnOk result (waits ≡ true → CapturesOut port_sinks.new underlay_sink.new) }
-    ensures writes { (failures : ℕ) → WritesWith port_sinks.old underlay_sink.old failures port_sinks.new underlay_sink.new
-        failures result }
+    ensures writes { CapturesWrite port_sinks.old underlay_sink.old port_sinks.new underlay_sink.new result }
 {
     if waits {
         return hand_on_captures(port_sinks, underlay_sink);
@@ -152,8 +149,7 @@ pub(crate) fn hand_on_lines_before<W: Output>(
     ensures kept { UnlessDevice result (Keeps (W.written decisions.old) (W.written decisions.new)) }
     ensures no_read { BlamesNoRead result }
     ensures out { OnOk result (waits ≡ true → W.held decisions.new ≡ []) }
-    ensures writes { (sinks : List Drain) (underlay_sink : Drain)
-        → WritesWith sinks underlay_sink (W.failures decisions.old) sinks underlay_sink (W.failures decisions.new) result }
+    ensures writes { LinesWrite (W.failures decisions.old) (W.failures decisions.new) result }
 {
     if waits {
         return hand_on_lines(decisions);

@@ -2,10 +2,9 @@
 ghost use Rattle.std.specs.Prelude.{◌≡◌, ◌≤◌, ◌<◌, ℕ, List, OnErr, OnOk, length, slice_index_or, true};
 ghost use Rattle.std.specs.Io.KnownBytes.{Appends};
 ghost use Rattle.std.specs.List.{concat};
-ghost use Rattle.pcap_stream.specs.Sink.{Drain};
 ghost use Rattle.pcap_io.specs.Written.{written_header};
 ghost use Rattle.timeline.specs.declared.timeline.Cut.{Cut};
-ghost use Rattle.part_merge.specs.Blame.{BlamesNoRead, BlamesNoWrite, ReadsWith, WritesWith};
+ghost use Rattle.part_merge.specs.Blame.{BlamesNoRead, BlamesNoWrite, CapturesWrite, LinesWrite, ReadsWith, WritesWith};
 ghost use Rattle.part_merge.specs.Coming.{OpenPart};
 ghost use Rattle.part_merge.specs.Left.{AreAdded, UnlessDevice};
 ghost use Rattle.part_merge.specs.Merged.{IsRising, Piece, merged, side_by_side, texts_of_pieces};
@@ -68,7 +67,7 @@ pub fn merge_streams<R: Input, W: Output>(
     if let Err(fault) = begin_all(port_sinks, underlay_sink) {
         return Err(fault);
     }
-    if let Err(fault) = put_all_events(parts, port_sinks, underlay_sink, decisions, may_wait) {
+    if let Err(fault) = put_events(parts, port_sinks, underlay_sink, decisions, may_wait) {
         return Err(fault);
     }
     finish_all(parts, port_sinks.len(), decisions, may_wait)
@@ -98,8 +97,7 @@ fn begin_all<W: Output>(
     ensures begun { UnlessDevice result (AreAdded (λ tap. written_header) port_sinks.old underlay_sink.old port_sinks.new
         underlay_sink.new) }
     ensures no_read { BlamesNoRead result }
-    ensures writes { (failures : ℕ) → WritesWith port_sinks.old underlay_sink.old failures port_sinks.new underlay_sink.new
-        failures result }
+    ensures writes { CapturesWrite port_sinks.old underlay_sink.old port_sinks.new underlay_sink.new result }
 {
     for i in 0..port_sinks.len() {
         if let Err(_) = port_sinks[i].begin() {
@@ -112,32 +110,9 @@ fn begin_all<W: Output>(
     }
 }
 
-/// Puts the event that comes next in a part to the outputs.
-fn put_at<R: Input, W: Output>(
-    parts: &mut [Part<R>],
-    index: usize,
-    port_sinks: &mut [Sink<W>],
-    underlay_sink: &mut Sink<W>,
-    decisions: &mut W,
-    may_wait: bool,
-) -> Result<(), MergeFault>
-    requires there { index < length parts.old }
-    requires count { (s : OpenPart) → length port_sinks.old ≡ length (slice_index_or parts.old index s).ports }
-    ensures put { (s : OpenPart) → PutsAt parts.old index s parts.new port_sinks.old underlay_sink.old (W.written decisions.old)
-        port_sinks.new underlay_sink.new (W.written decisions.new) result }
-    ensures line { (s : OpenPart) → OnOk result
-        (AddsLine (slice_index_or parts.old index s).coming (W.written decisions.old) (W.written decisions.new)) }
-    ensures reads { ReadsWith parts.old parts.new result }
-    ensures writes { WritesWith port_sinks.old underlay_sink.old (W.failures decisions.old) port_sinks.new underlay_sink.new
-        (W.failures decisions.new) result }
-    ensures waits { IsOutAtRead may_wait port_sinks.new underlay_sink.new (W.held decisions.new) result }
-{
-    parts[index].put_event(index, port_sinks, underlay_sink, decisions, may_wait)
-}
-
 /// Puts the event that comes next in a part to the outputs. Where its line has no room beside those that are held back, all that
 /// is held back is handed on before.
-fn put_and_hand_on<R: Input, W: Output>(
+fn put_at<R: Input, W: Output>(
     parts: &mut [Part<R>],
     index: usize,
     port_sinks: &mut [Sink<W>],
@@ -160,58 +135,12 @@ fn put_and_hand_on<R: Input, W: Output>(
     if let Err(fault) = hand_on_before(is_full, port_sinks, underlay_sink, decisions) {
         return Err(fault);
     }
-    put_at(parts, index, port_sinks, underlay_sink, decisions, may_wait)
+    parts[index].put_event(index, port_sinks, underlay_sink, decisions, may_wait)
 }
 
-/// Puts the events of all parts to the outputs, in order of their numbers, of which none may be missing.
+/// Puts the events of all parts to the outputs, in order of their numbers, of which none may be missing. Where reads may wait, or
+/// the lines of cut captures might find no room, the captures hold nothing back behind the last of them.
 fn put_events<R: Input, W: Output>(
-    parts: &mut [Part<R>],
-    port_sinks: &mut [Sink<W>],
-    underlay_sink: &mut Sink<W>,
-    decisions: &mut W,
-    may_wait: bool,
-) -> Result<(), MergeFault>
-    requires { HaveAll (length port_sinks.old) parts.old }
-    ensures counts { HaveAll (length port_sinks.old) parts.new }
-    ensures events { (pieces : List (List Piece)) (cuts : List (List (List ℕ)))
-        → AllHold (length port_sinks.old) pieces cuts parts.old → AllRise pieces → IsRising 0 (merged pieces)
-        → UnlessMissing result (merged pieces)
-        (PutsAll (length port_sinks.old) (merged pieces) cuts parts.new port_sinks.old underlay_sink.old
-        (W.written decisions.old) port_sinks.new underlay_sink.new (W.written decisions.new)) }
-    ensures numbered { OnOk result ((count : ℕ) × AddsEvents count (W.written decisions.old) (W.written decisions.new)) }
-    ensures over { OnOk result (HaveNoEvent parts.new) }
-    ensures reads { ReadsWith parts.old parts.new result }
-    ensures writes { WritesWith port_sinks.old underlay_sink.old (W.failures decisions.old) port_sinks.new underlay_sink.new
-        (W.failures decisions.new) result }
-    ensures waits { IsOutAtRead may_wait port_sinks.new underlay_sink.new (W.held decisions.new) result }
-{
-    let mut last = 0;
-    while let Some(first) = find_first(parts) {
-        if first.number <= last {
-            return Err(behind(last, first.index, first.number));
-        }
-        let next = last + 1;
-        if first.number > next {
-            return Err(MergeFault::Missing(next));
-        }
-        if let Err(fault) = put_and_hand_on(
-            parts,
-            first.index,
-            port_sinks,
-            underlay_sink,
-            decisions,
-            may_wait,
-        ) {
-            return Err(fault);
-        }
-        last = first.number;
-    }
-    Ok(())
-}
-
-/// Puts the events of all parts to the outputs as [`put_events`] does. Where reads may wait, or the lines of cut captures might
-/// find no room, the captures hold nothing back behind the last of them.
-fn put_all_events<R: Input, W: Output>(
     parts: &mut [Part<R>],
     port_sinks: &mut [Sink<W>],
     underlay_sink: &mut Sink<W>,
@@ -233,8 +162,26 @@ fn put_all_events<R: Input, W: Output>(
     ensures waits { IsOutAtRead may_wait port_sinks.new underlay_sink.new (W.held decisions.new) result }
     ensures out { OnOk result (may_wait ≡ true → CapturesOut port_sinks.new underlay_sink.new) }
 {
-    if let Err(fault) = put_events(parts, port_sinks, underlay_sink, decisions, may_wait) {
-        return Err(fault);
+    let mut last = 0;
+    while let Some(first) = find_first(parts) {
+        if first.number <= last {
+            return Err(behind(last, first.index, first.number));
+        }
+        let next = last + 1;
+        if first.number > next {
+            return Err(MergeFault::Missing(next));
+        }
+        if let Err(fault) = put_at(
+            parts,
+            first.index,
+            port_sinks,
+            underlay_sink,
+            decisions,
+            may_wait,
+        ) {
+            return Err(fault);
+        }
+        last = first.number;
     }
     let is_full = decisions.must_hand_on(MOST_OF_CUTS);
     hand_on_captures_before(may_wait || is_full, port_sinks, underlay_sink)
@@ -267,8 +214,7 @@ fn finish_all<R: Input, W: Output>(
     ensures put { OnOk result (AddsCuts (W.written decisions.old) (W.written decisions.new)) }
     ensures over { OnOk result (HaveNoEvent parts.old → AreRead parts.new) }
     ensures reads { ReadsWith parts.old parts.new result }
-    ensures writes { (sinks : List Drain) (underlay_sink : Drain)
-        → WritesWith sinks underlay_sink (W.failures decisions.old) sinks underlay_sink (W.failures decisions.new) result }
+    ensures writes { LinesWrite (W.failures decisions.old) (W.failures decisions.new) result }
     ensures waits { AreOutAtRead may_wait (W.held decisions.new) result }
 {
     for index in 0..parts.len() {

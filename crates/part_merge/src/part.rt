@@ -3,11 +3,10 @@ ghost use Rattle.std.specs.Prelude.{◌≡◌, ◌≤◌, ◌++◌, ⊤, ℕ, Li
 ghost use Rattle.std.specs.Io.KnownBytes.{Appends, Keeps};
 ghost use Rattle.std.specs.List.{concat};
 ghost use Rattle.line_stream.specs.Lines.{holds_line};
-ghost use Rattle.pcap_stream.specs.Sink.{Drain};
 ghost use Rattle.part_lines.specs.Facts.{facts_of};
 ghost use Rattle.part_lines.specs.declared.facts.LineFacts.TheVariants.{Event};
 ghost use Rattle.timeline.specs.declared.source.Tap.{Tap as ATap};
-ghost use Rattle.part_merge.specs.Blame.{BlamesNoRead, BlamesNoWrite, CapturesRead, LinesRead, MatchRead, PartOpens, PartReads};
+ghost use Rattle.part_merge.specs.Blame.{BlamesNoRead, BlamesNoWrite, LinesRead, LinesWrite, MatchRead, PartOpens, PartReads};
 ghost use Rattle.part_merge.specs.Blame.{WritesWith};
 ghost use Rattle.part_merge.specs.Coming.{ComesNext, Holds, HoldsAll, StandBehind, UnlessPart, is_cut};
 ghost use Rattle.part_merge.specs.Left.{AreAdded, AreLeft, UnlessDevice};
@@ -57,66 +56,11 @@ impl<R: Input> Model for Part<R> {
     ghost invariant = { λ p. IfSome p.begins (IsPlaced p.lines.line) × IsOf p.coming p.lines.line };
 }
 
-/// Copies the records that the line of an event tells. Where its result is known to begin somewhere it isn't read again.
-fn copy_event<R: Input, W: Output>(
-    part: usize,
-    line: &[u8],
-    begins: Option<usize>,
-    ports: &mut [Capture<R>],
-    underlay: &mut Capture<R>,
-    port_sinks: &mut [Sink<W>],
-    underlay_sink: &mut Sink<W>,
-    decisions: &mut W,
-    may_wait: bool,
-) -> Result<(), MergeFault>
-    requires placed { IfSome begins (IsPlaced line.now) }
-    requires count { length port_sinks.old ≡ length ports.old }
-    ensures copied { (number : ℕ) (records : List (ATap × List ℕ)) (rest : ATap → List ℕ)
-        → facts_of line.now ≡ Ok (Event number (taps records)) → AreRecords (length ports.old) records
-        → AreLeft (λ t. records_at t records ++ rest t) ports.old underlay.old
-        → Moves rest (λ t. records_at t records) ports.new underlay.new port_sinks.old underlay_sink.old port_sinks.new
-        underlay_sink.new result }
-    ensures kept { OnOk result (Keeps (W.written decisions.old) (W.written decisions.new)) }
-    ensures reads { CapturesRead part ports.old underlay.old ports.new underlay.new result }
-    ensures writes { WritesWith port_sinks.old underlay_sink.old (W.failures decisions.old) port_sinks.new underlay_sink.new
-        (W.failures decisions.new) result }
-    ensures waits { IsOutAtRead may_wait port_sinks.new underlay_sink.new (W.held decisions.new) result }
-{
-    if let Some(at) = begins {
-        let places = Places::behind(line, at);
-        return copy_all(
-            part,
-            places,
-            ports,
-            underlay,
-            port_sinks,
-            underlay_sink,
-            decisions,
-            may_wait,
-        );
-    }
-    match read_line(line) {
-        Ok(LineFacts::Event(_, places)) => copy_all(
-            part,
-            places,
-            ports,
-            underlay,
-            port_sinks,
-            underlay_sink,
-            decisions,
-            may_wait,
-        ),
-        Ok(LineFacts::Cut) => Ok(()),
-        Err(fault) => Err(MergeFault::Part(part, PartFault::Line(fault))),
-    }
-}
-
 /// Puts a line to the decisions.
 fn put_line<W: Output>(decisions: &mut W, line: &[u8]) -> Result<(), MergeFault>
     ensures put { UnlessDevice result (Appends (W.written decisions.old) (W.written decisions.new) line.now) }
     ensures no_read { BlamesNoRead result }
-    ensures writes { (sinks : List Drain) (underlay_sink : Drain)
-        → WritesWith sinks underlay_sink (W.failures decisions.old) sinks underlay_sink (W.failures decisions.new) result }
+    ensures writes { LinesWrite (W.failures decisions.old) (W.failures decisions.new) result }
 {
     match decisions.write_all(line) {
         Ok(()) => Ok(()),
@@ -213,7 +157,7 @@ impl<R: Input> Part<R> {
         }
     }
 
-    /// Copies the records that the next line tells.
+    /// Copies the records that the next line tells. Where its result is known to begin somewhere it isn't read again.
     fn copy_records<W: Output>(
         &mut self,
         part: usize,
@@ -237,10 +181,18 @@ impl<R: Input> Part<R> {
             (W.failures decisions.new) result }
         ensures waits { IsOutAtRead may_wait port_sinks.new underlay_sink.new (W.held decisions.new) result }
     {
-        copy_event(
+        let line = self.lines.line();
+        let places = match self.begins {
+            Some(at) => Places::behind(line, at),
+            None => match read_line(line) {
+                Ok(LineFacts::Event(_, places)) => places,
+                Ok(LineFacts::Cut) => return Ok(()),
+                Err(fault) => return Err(MergeFault::Part(part, PartFault::Line(fault))),
+            },
+        };
+        copy_all(
             part,
-            self.lines.line(),
-            self.begins,
+            places,
             self.ports.as_mut_slice(),
             &mut self.underlay,
             port_sinks,
@@ -304,8 +256,7 @@ impl<R: Input> Part<R> {
         ensures put { OnOk result (AddsLine self.old.coming (W.written decisions.old) (W.written decisions.new)) }
         ensures behind_cut { OnOk result (is_cut self.old.coming ≡ true → IsNone self.new.coming) }
         ensures reads { PartReads part self.old self.new result }
-        ensures writes { (sinks : List Drain) (underlay_sink : Drain)
-            → WritesWith sinks underlay_sink (W.failures decisions.old) sinks underlay_sink (W.failures decisions.new) result }
+        ensures writes { LinesWrite (W.failures decisions.old) (W.failures decisions.new) result }
         ensures lacked { MatchRead result (λ _. holds_line self.old.reader ≡ false) ⊤ }
         ensures waits { AreOutAtRead may_wait (W.held decisions.new) result }
     {
@@ -333,8 +284,7 @@ impl<R: Input> Part<R> {
         ensures put { OnOk result (AddsCuts (W.written decisions.old) (W.written decisions.new)) }
         ensures over { OnOk result (IsNone self.old.coming → self.new.coming ≡ Nothing) }
         ensures reads { PartReads part self.old self.new result }
-        ensures writes { (sinks : List Drain) (underlay_sink : Drain)
-            → WritesWith sinks underlay_sink (W.failures decisions.old) sinks underlay_sink (W.failures decisions.new) result }
+        ensures writes { LinesWrite (W.failures decisions.old) (W.failures decisions.new) result }
         ensures waits { AreOutAtRead may_wait (W.held decisions.new) result }
     {
         for _count in 0..MOST_CUTS + 1 {
@@ -362,8 +312,7 @@ impl<R: Input> Part<R> {
         ensures put { OnOk result (AddsCuts (W.written decisions.old) (W.written decisions.new)) }
         ensures over { OnOk result (IsNone self.old.coming → self.new.coming ≡ Nothing) }
         ensures reads { PartReads part self.old self.new result }
-        ensures writes { (sinks : List Drain) (underlay_sink : Drain)
-            → WritesWith sinks underlay_sink (W.failures decisions.old) sinks underlay_sink (W.failures decisions.new) result }
+        ensures writes { LinesWrite (W.failures decisions.old) (W.failures decisions.new) result }
         ensures waits { AreOutAtRead may_wait (W.held decisions.new) result }
     {
         if let Err(fault) = self.put_cuts(part, decisions, may_wait) {

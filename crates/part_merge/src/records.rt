@@ -5,7 +5,7 @@ ghost use Rattle.pcap_stream.specs.Sink.{Drain};
 ghost use Rattle.pcap_stream.specs.Source.{Stream, holds_next};
 ghost use Rattle.timeline.specs.declared.source.Tap.{Tap as ATap};
 ghost use Rattle.timeline.specs.declared.source.Tap.TheVariants.{Port};
-ghost use Rattle.part_merge.specs.Blame.{BlamesNoWrite, CapturesRead, MatchRead, SinkWrites, SourceReads, WritesWith};
+ghost use Rattle.part_merge.specs.Blame.{BlamesNoWrite, CapturesRead, CapturesWrite, MatchRead, SinkWrites, SourceReads, WritesWith};
 ghost use Rattle.part_merge.specs.Left.{AreAdded, AreLeft, IsAdded, IsLeft, IsTap, IsWritten, UnlessDevice};
 ghost use Rattle.part_merge.specs.Moved.{AreRecords, Moves, taps};
 ghost use Rattle.part_merge.specs.Merged.{at_tap, records_at};
@@ -93,8 +93,7 @@ fn copy_at<R: Input, W: Output>(
         → Moves rest (λ t. at_tap t tap text) ports.new underlay.new port_sinks.old underlay_sink.old port_sinks.new
         underlay_sink.new result }
     ensures reads { CapturesRead part ports.old underlay.old ports.new underlay.new result }
-    ensures writes { (failures : ℕ) → WritesWith port_sinks.old underlay_sink.old failures port_sinks.new underlay_sink.new
-        failures result }
+    ensures writes { CapturesWrite port_sinks.old underlay_sink.old port_sinks.new underlay_sink.new result }
     ensures waits { MatchRead result (λ _. TakesRead ports.old underlay.old tap × (port_sinks.new ≡ port_sinks.old)
         × (underlay_sink.new ≡ underlay_sink.old)) ⊤ }
 {

@@ -1,6 +1,6 @@
 -- The lines of captures.
-use Rattle.std.proofs.Common.{◌≡◌, ◌≢◌, ◌∙◌, sym, refl, ap, ℕ, suc, ◌+◌, ◌<◌, List, [], ◌∷◌, ◌++◌, length, get_or, take, codes, decimal, All, Option, None, Some, MatchOption, Bor, arith, add-zero, append_assoc, append-nil}
-use Rattle.std.proofs.lemmas.List.{append_cancel_left, length-take, take_more}
+use Rattle.std.proofs.Common.{◌≡◌, ◌≢◌, ◌∙◌, sym, refl, ap, ℕ, suc, ◌+◌, ◌<◌, List, [], ◌∷◌, ◌++◌, length, codes, decimal, All, Option, None, Some, MatchOption, Bor, arith, add-zero, append_assoc}
+use Rattle.std.proofs.lemmas.List.{append_cancel_left}
 use Rattle.std.proofs.lemmas.List.Elements.{All-head, All-tail}
 use Rattle.hex.specs.Hex.{encode_lower}
 use Rattle.timeline.specs.declared.source.Tap.TheVariants as taps
@@ -26,34 +26,6 @@ port_found text numbered told port (Some found) e h some =
     (some.0, e ∙ ap (λ (l : List ℕ). codes "capture p" ++ l) (h ∙ ap (λ (l : List ℕ). decimal port ++ l) some.1) ∙ sym (port_line_parts port found.0 found.1.now))
 
 -- ---- lines of ports in turn
-
-pub port_lines-push : (port : ℕ) (sums : List (List ℕ)) (sum : List ℕ)
-    → port_lines port (sums ++ sum ∷ []) ≡ port_lines port sums ++ capture_line (taps.Port (port + length sums)) sum
-port_lines-push port [] sum = rw add-zero (append-nil (capture_line (taps.Port port) sum))
-port_lines-push port (s ∷ sums) sum =
-    let same : port + 1 + length sums ≡ port + suc (length sums) = omega arith in
-    ap (λ (l : List ℕ). capture_line (taps.Port port) s ++ l) (port_lines-push (port + 1) sums sum ∙ ap (λ (n : ℕ). port_lines (port + 1) sums ++ capture_line (taps.Port n) sum) same)
-    ∙ sym (append_assoc (capture_line (taps.Port port) s) (port_lines (port + 1) sums) (capture_line (taps.Port (port + suc (length sums))) sum))
-
--- one more of them was read
-pub port_more : (text : List ℕ) (sums : List (List ℕ)) (rest sum next : List ℕ) (port : ℕ) → port ≡ length sums + 1 → text ≡ port_lines 1 sums ++ rest
-    → rest ≡ capture_line (taps.Port port) sum ++ next → text ≡ port_lines 1 (sums ++ sum ∷ []) ++ next
-port_more text sums rest sum next port at e h =
-    let same : port ≡ 1 + length sums = omega arith in
-    e ∙ ap (λ (l : List ℕ). port_lines 1 sums ++ l) (h ∙ ap (λ (n : ℕ). capture_line (taps.Port n) sum ++ next) same)
-    ∙ sym (append_assoc (port_lines 1 sums) (capture_line (taps.Port (1 + length sums)) sum) next)
-    ∙ ap (λ (l : List ℕ). l ++ next) (sym (port_lines-push 1 sums sum))
-
--- one more of them was put
-pub put_more : (start items new : List ℕ) (sums : List (List ℕ)) (i port : ℕ) → i < length sums → port ≡ i + 1 → items ≡ start ++ port_lines 1 (take i sums)
-    → new ≡ items ++ capture_line (taps.Port port) (get_or sums i []) → new ≡ start ++ port_lines 1 (take (i + 1) sums)
-put_more start items new sums i port less at e h =
-    let count : port ≡ 1 + length (take i sums) = omega (arith, length-take i sums) in
-    h ∙ ap (λ (l : List ℕ). l ++ capture_line (taps.Port port) (get_or sums i [])) e
-    ∙ append_assoc start (port_lines 1 (take i sums)) (capture_line (taps.Port port) (get_or sums i []))
-    ∙ ap (λ (l : List ℕ). start ++ l)
-    (ap (λ (n : ℕ). port_lines 1 (take i sums) ++ capture_line (taps.Port n) (get_or sums i [])) count
-    ∙ sym (port_lines-push 1 (take i sums) (get_or sums i [])) ∙ ap (λ (l : List (List ℕ)). port_lines 1 l) (sym (take_more sums i [] less)))
 
 -- a text doesn't go on with the capture of a port
 abbrev pub LacksPort : List ℕ → Type 0

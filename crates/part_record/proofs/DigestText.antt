@@ -1,7 +1,7 @@
 -- Lines of captures in the text of their digests: where two texts begin with one, both have the same.
-use Rattle.std.proofs.Common.{◌≡◌, ◌≢◌, ◌∙◌, sym, refl, ap, ℕ, suc, ◌+◌, ◌^◌, ◌<◌, ◌≤◌, List, [], ◌∷◌, ◌++◌, length, get_or, take, codes, decimal, All, Option, None, Some, MatchOption, Bor, arith, add-zero, append_assoc, append-nil, length-append}
+use Rattle.std.proofs.Common.{◌≡◌, ◌≢◌, ◌∙◌, sym, refl, ap, ℕ, suc, ◌+◌, ◌^◌, ◌<◌, ◌≤◌, List, [], ◌∷◌, ◌++◌, length, get_or, codes, decimal, All, Option, None, Some, MatchOption, Bor, arith, add-zero, append_assoc, append-nil, length-append}
 use Rattle.std.proofs.lemmas.Fmt.{decimal_injective, digits_decimal}
-use Rattle.std.proofs.lemmas.List.{append_cancel_left, length-take, take_more}
+use Rattle.std.proofs.lemmas.List.{append_cancel_left}
 use Rattle.std.proofs.lemmas.List.Elements.{All-head, All-tail}
 use Rattle.std.proofs.lemmas.Str.Parse.{numerals_by_value, tells_by_index}
 use Rattle.std.specs.Int.{IsInRange}
@@ -83,34 +83,6 @@ port_found text numbered told port (Some found) e h some =
     (some.0, e ∙ ap (λ (l : List ℕ). codes "capture p" ++ l) (h ∙ ap (λ (l : List ℕ). decimal port ++ l) some.1) ∙ sym (port_parts port found.0 found.1.now))
 
 -- ---- lines of ports in turn
-
-pub digest_lines-push : (port : ℕ) (ds : List CaptureDigest) (d : CaptureDigest)
-    → digest_lines port (ds ++ d ∷ []) ≡ digest_lines port ds ++ port_line (port + length ds) d
-digest_lines-push port [] d = rw add-zero (append-nil (port_line port d))
-digest_lines-push port (s ∷ ds) d =
-    let same : port + 1 + length ds ≡ port + suc (length ds) = omega arith in
-    ap (λ (l : List ℕ). port_line port s ++ l) (digest_lines-push (port + 1) ds d ∙ ap (λ (n : ℕ). digest_lines (port + 1) ds ++ port_line n d) same)
-    ∙ sym (append_assoc (port_line port s) (digest_lines (port + 1) ds) (port_line (port + suc (length ds)) d))
-
--- one more of them was read
-pub port_more : (text : List ℕ) (ds : List CaptureDigest) (rest : List ℕ) (d : CaptureDigest) (next : List ℕ) (port : ℕ) → port ≡ length ds + 1 → text ≡ digest_lines 1 ds ++ rest
-    → rest ≡ port_line port d ++ next → text ≡ digest_lines 1 (ds ++ d ∷ []) ++ next
-port_more text ds rest d next port at e h =
-    let same : port ≡ 1 + length ds = omega arith in
-    e ∙ ap (λ (l : List ℕ). digest_lines 1 ds ++ l) (h ∙ ap (λ (n : ℕ). port_line n d ++ next) same)
-    ∙ sym (append_assoc (digest_lines 1 ds) (port_line (1 + length ds) d) next)
-    ∙ ap (λ (l : List ℕ). l ++ next) (sym (digest_lines-push 1 ds d))
-
--- one more of them was put
-pub put_more : (start items new : List ℕ) (ds : List CaptureDigest) (i port : ℕ) (none : CaptureDigest) → i < length ds → port ≡ i + 1 → items ≡ start ++ digest_lines 1 (take i ds)
-    → new ≡ items ++ port_line port (get_or ds i none) → new ≡ start ++ digest_lines 1 (take (i + 1) ds)
-put_more start items new ds i port none less at e h =
-    let count : port ≡ 1 + length (take i ds) = omega (arith, length-take i ds) in
-    h ∙ ap (λ (l : List ℕ). l ++ port_line port (get_or ds i none)) e
-    ∙ append_assoc start (digest_lines 1 (take i ds)) (port_line port (get_or ds i none))
-    ∙ ap (λ (l : List ℕ). start ++ l)
-    (ap (λ (n : ℕ). digest_lines 1 (take i ds) ++ port_line n (get_or ds i none)) count
-    ∙ sym (digest_lines-push 1 (take i ds) (get_or ds i none)) ∙ ap (λ (l : List CaptureDigest). digest_lines 1 l) (sym (take_more ds i none less)))
 
 -- the eighth octet of `capture u ` and the ninth of `capture p`
 lacks_port : (port : ℕ) (d u : CaptureDigest) (r q : List ℕ) → port_line port d ++ r ≢ underlay_line u ++ q

@@ -5,3 +5,4 @@ pub mod Lines
 pub mod OutputText
 pub mod Reading
 pub mod RecordText
+pub mod Turns

@@ -1,7 +1,7 @@
 -- Lines of outputs: where two texts begin with one, both have the same.
-use Rattle.std.proofs.Common.{◌≡◌, ◌≢◌, ◌∙◌, sym, refl, ap, ℕ, zero, suc, ◌+◌, ◌^◌, ◌<◌, List, [], ◌∷◌, ◌++◌, length, get_or, take, codes, decimal, All, Option, None, Some, MatchOption, Bor, arith, add-zero, append_assoc, append-nil}
+use Rattle.std.proofs.Common.{◌≡◌, ◌≢◌, ◌∙◌, sym, refl, ap, ℕ, zero, suc, ◌+◌, ◌^◌, ◌<◌, List, [], ◌∷◌, ◌++◌, length, get_or, take, codes, decimal, All, Option, None, Some, MatchOption, Bor, arith, add-zero, append_assoc}
 use Rattle.std.proofs.lemmas.Fmt.{decimal_injective}
-use Rattle.std.proofs.lemmas.List.{append_cancel_left, length-take, take_more}
+use Rattle.std.proofs.lemmas.List.{append_cancel_left}
 use Rattle.std.proofs.lemmas.List.Elements.{All-head, All-tail}
 use Rattle.octet_sum.specs.declared.sum.OctetSum.{OctetSum}
 use Rattle.part_record.specs.Digests.{Lacks}
@@ -10,6 +10,7 @@ use Rattle.part_record.specs.Record.{IsOneLine}
 use Rattle.part_record.specs.declared.outputs.OutputFacts.{OutputFacts}
 use Rattle.part_record.proofs.DigestText.{lacks_space}
 use Rattle.part_record.proofs.Lines.{one_line_decimal, same_word}
+use Rattle.part_record.proofs.Turns.{put_more as put_next}
 
 -- ---- a number, and the character behind it
 
@@ -122,34 +123,12 @@ port_word_put start new zero some e = absurd (omega arith)
 
 -- ---- lines in turn
 
-pub output_lines-push : (place : ℕ) (fs : List OutputFacts) (f : OutputFacts) → output_lines place (fs ++ f ∷ []) ≡ output_lines place fs ++ output_line (place + length fs) f
-output_lines-push place [] f = rw add-zero (append-nil (output_line place f))
-output_lines-push place (g ∷ fs) f =
-    let same : place + 1 + length fs ≡ place + suc (length fs) = omega arith in
-    ap (λ (l : List ℕ). output_line place g ++ l) (output_lines-push (place + 1) fs f ∙ ap (λ (n : ℕ). output_lines (place + 1) fs ++ output_line n f) same)
-    ∙ sym (append_assoc (output_line place g) (output_lines (place + 1) fs) (output_line (place + suc (length fs)) f))
-
--- one more of them was read
-pub output_more : (text : List ℕ) (fs : List OutputFacts) (rest : List ℕ) (f : OutputFacts) (next : List ℕ) (place : ℕ) → place ≡ length fs → text ≡ output_lines 0 fs ++ rest
-    → rest ≡ output_line place f ++ next → text ≡ output_lines 0 (fs ++ f ∷ []) ++ next
-output_more text fs rest f next place at e h =
-    let same : place ≡ 0 + length fs = omega arith in
-    e ∙ ap (λ (l : List ℕ). output_lines 0 fs ++ l) (h ∙ ap (λ (n : ℕ). output_line n f ++ next) same)
-    ∙ sym (append_assoc (output_lines 0 fs) (output_line (0 + length fs) f) next)
-    ∙ ap (λ (l : List ℕ). l ++ next) (sym (output_lines-push 0 fs f))
-
 -- one more of them was put
 pub put_more : (start items named new : List ℕ) (fs : List OutputFacts) (i : ℕ) (none : OutputFacts) → i < length fs → items ≡ start ++ output_lines 0 (take i fs)
     → named ≡ items ++ output_word i → new ≡ named ++ numbers (get_or fs i none) → new ≡ start ++ output_lines 0 (take (i + 1) fs)
 put_more start items named new fs i none less e n h =
-    let count : i ≡ 0 + length (take i fs) = omega (arith, length-take i fs) in
-    h ∙ ap (λ (l : List ℕ). l ++ numbers (get_or fs i none)) n
-    ∙ append_assoc items (output_word i) (numbers (get_or fs i none))
-    ∙ ap (λ (l : List ℕ). l ++ output_line i (get_or fs i none)) e
-    ∙ append_assoc start (output_lines 0 (take i fs)) (output_line i (get_or fs i none))
-    ∙ ap (λ (l : List ℕ). start ++ l)
-    (ap (λ (n : ℕ). output_lines 0 (take i fs) ++ output_line n (get_or fs i none)) count
-    ∙ sym (output_lines-push 0 (take i fs) (get_or fs i none)) ∙ ap (λ (l : List OutputFacts). output_lines 0 l) (sym (take_more fs i none less)))
+    put_next output_line 0 start items new fs i i none less (omega arith) e
+    (h ∙ ap (λ (l : List ℕ). l ++ numbers (get_or fs i none)) n ∙ append_assoc items (output_word i) (numbers (get_or fs i none)))
 
 no_empty_line : (place : ℕ) (f : OutputFacts) (rest : List ℕ) → output_line place f ++ rest ≢ []
 no_empty_line zero f rest e = cc e

@@ -1,6 +1,7 @@
 -- The text that lends the digests of captures to the parts of a run. It states no standard.
 use Rattle.std.specs.Prelude.{◌≡◌, ◌≢◌, ◌<◌, ◌≤◌, ℕ, ◌+◌, ◌^◌, List, [], ◌∷◌, ◌++◌, length, slice_index, codes, decimal, All}
 use Rattle.timeline.specs.declared.source.Tap.TheVariants as taps
+use Rattle.part_record.specs.InTurn.{lines_in_turn}
 use Rattle.part_record.specs.Record.{capture_word, sum_line}
 use Rattle.sha2.specs.Sha256.{sha256}
 use Rattle.part_record.specs.Sum.{IsSum, counted}
@@ -45,8 +46,7 @@ underlay_line d = digest_line (capture_word taps.Underlay) d
 
 -- the captures of the ports from this one on
 abbrev pub digest_lines : ℕ → List CaptureDigest → List ℕ
-digest_lines port [] = []
-digest_lines port (d ∷ ds) = port_line port d ++ digest_lines (port + 1) ds
+digest_lines port ds = lines_in_turn port_line port ds
 
 -- the text of the digests of a run's captures: one capture a line, the ports' rising and the underlay's last
 abbrev pub digests_text : List CaptureDigest → CaptureDigest → List ℕ

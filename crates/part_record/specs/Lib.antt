@@ -1,6 +1,7 @@
 pub mod Counts
 pub mod Digests
 pub mod Fault
+pub mod InTurn
 pub mod Laws
 pub mod Lent
 pub mod Outputs

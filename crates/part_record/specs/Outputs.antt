@@ -1,6 +1,7 @@
 -- What is told of a part's outputs. It states no standard.
 use Rattle.std.specs.Prelude.{◌≡◌, ◌<◌, ℕ, zero, suc, ◌+◌, ◌^◌, List, [], ◌∷◌, ◌++◌, length, codes, decimal, All}
 use Rattle.octet_sum.specs.declared.sum.OctetSum.{OctetSum}
+use Rattle.part_record.specs.InTurn.{lines_in_turn}
 use Rattle.part_record.specs.declared.outputs.OutputFacts.{OutputFacts}
 
 -- what can be told of an output: numbers of 64 bits
@@ -40,5 +41,4 @@ output_line place f = output_word place ++ numbers f
 
 -- the lines of the outputs from this place on
 abbrev pub output_lines : ℕ → List OutputFacts → List ℕ
-output_lines place [] = []
-output_lines place (f ∷ fs) = output_line place f ++ output_lines (place + 1) fs
+output_lines place fs = lines_in_turn output_line place fs

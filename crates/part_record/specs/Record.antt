@@ -5,6 +5,7 @@ use Rattle.hex.specs.Hex.{encode_lower}
 use Rattle.timeline.specs.Words.{tap_word}
 use Rattle.timeline.specs.declared.source.Tap.{Tap}
 use Rattle.timeline.specs.declared.source.Tap.TheVariants as taps
+use Rattle.part_record.specs.InTurn.{lines_in_turn}
 use Rattle.part_record.specs.Outputs.{output_lines}
 use Rattle.part_record.specs.Sum.{IsSum}
 use Rattle.part_record.specs.declared.outputs.OutputFacts.{OutputFacts}
@@ -91,8 +92,7 @@ capture_line tap sum = sum_line (capture_word tap) sum
 
 -- the captures of the ports from this one on
 abbrev pub port_lines : ℕ → List (List ℕ) → List ℕ
-port_lines port [] = []
-port_lines port (sum ∷ sums) = capture_line (taps.Port port) sum ++ port_lines (port + 1) sums
+port_lines port sums = lines_in_turn (λ number sum. capture_line (taps.Port number) sum) port sums
 
 -- none where the captures hold what came in alone
 abbrev pub both_line : Option ℕ → List ℕ

@@ -10,8 +10,8 @@
 //! alone. [`SumOutput`] sums what it hands on, [`SumInput`] fails at an end with other sums than were told, and
 //! [`RecordCounts`] are counts by place.
 //!
-//! Specs to read, in order: `specs/Record`, `specs/Outputs`, `specs/Fault`, `specs/Same`, `specs/Parting`, `specs/Digests`,
-//! `specs/Lent`, `specs/Sum`, `specs/Counts`.
+//! Specs to read, in order: `specs/InTurn`, `specs/Record`, `specs/Outputs`, `specs/Fault`, `specs/Same`, `specs/Parting`,
+//! `specs/Digests`, `specs/Lent`, `specs/Sum`, `specs/Counts`.
 //!
 //! Proved: a text is read as a record just where it is that record's text, and else a fault is told that stands there; as
 //! digests just where it is theirs, and else the first line at which it is none. Each input and output on the way hands on what

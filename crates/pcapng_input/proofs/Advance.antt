@@ -270,6 +270,14 @@ pub record IsParted (held body last : List ℕ) (a c : List ℕ) (size : ℕ) : 
   pub front : length held + length body + 4 ≡ size
   pub four : length last ≡ 4
 
+parted_of : (held : List ℕ) (size : ℕ) (a b c : List ℕ) (count : ℕ) (body : IsBehind (Some a) (Some b) count) (last : IsBehind (Some b) (Some c) 4)
+    → count + length held + 4 ≡ size → IsParted held body.taken last.taken a c size
+parted_of held size a b c count body last sum = record {
+  parts = body.consumed ∙ ap (λ t. body.taken ++ t) last.consumed;
+  front = omega (arith, body.many, sum);
+  four = last.many;
+}
+
 parted_fits : (held body last a c : List ℕ) (size : ℕ) → IsParted held body last a c size → size ≤ length (held ++ a)
 parted_fits held body last a c size is =
     subst (λ t. size ≤ length (held ++ t)) (sym is.parts)
@@ -299,11 +307,7 @@ over_passed order held new size None y z count number body last sum is same none
 over_passed order held new size (Some a) None z count number body last sum is same none = absurd body.consumed
 over_passed order held new size (Some a) (Some b) None count number body last sum is same none = absurd last.consumed
 over_passed order held new size (Some a) (Some b) (Some c) count number body last sum is same none =
-    let parted : IsParted held body.taken last.taken a c size = record {
-      parts = body.consumed ∙ ap (λ t. body.taken ++ t) last.consumed;
-      front = omega (arith, body.many, sum);
-      four = last.many;
-    } in
+    let parted = parted_of held size a b c count body last sum in
     record {
       fits = parted_fits held body.taken last.taken a c size parted;
       then = parted_behind held body.taken last.taken a c size parted ∙ ap (λ t. t ++ c) (sym none);
@@ -317,11 +321,7 @@ over_unequal order held size None y z count number body last sum is differ = tt
 over_unequal order held size (Some a) None z count number body last sum is differ = absurd body.consumed
 over_unequal order held size (Some a) (Some b) None count number body last sum is differ = absurd last.consumed
 over_unequal order held size (Some a) (Some b) (Some c) count number body last sum is differ =
-    let parted : IsParted held body.taken last.taken a c size = record {
-      parts = body.consumed ∙ ap (λ t. body.taken ++ t) last.consumed;
-      front = omega (arith, body.many, sum);
-      four = last.many;
-    } in
+    let parted = parted_of held size a b c count body last sum in
     record {
       fits = parted_fits held body.taken last.taken a c size parted;
       second = ap (λ n. n == size) (parted_number order held body.taken last.taken a c size parted ∙ is) ∙ differ;

@@ -184,6 +184,14 @@ wanted-more section held rest long =
     by_order None long = refl
     by_order (Some o) long = ap size_wanted (number_of-front o 4 4 held rest (omega arith))
 
+-- as much is wanted of the first octets that are wanted
+wanted-part : (section : Option Order) (held : List ℕ) → 12 ≤ length held → wanted_size section held ≡ wanted_size section (take (wanted_size section held) held)
+wanted-part section held long =
+    let least = wanted-least section held long in
+    let size = length-take (wanted_size section held) held in
+    ap (wanted_size section) (sym (take-append-drop (wanted_size section held) held))
+    ∙ wanted-more section (take (wanted_size section held) held) (drop (wanted_size section held) held) (omega (arith, size, long, least))
+
 -- the first octets that are wanted are as many as are wanted of them, unless that is all
 pub wanted-fits : (section : Option Order) (held : List ℕ) → length (take (wanted_size section held) held) ≤ wanted_size section (take (wanted_size section held) held)
 wanted-fits section held = elim (cases_lt (length held) 12) [
@@ -191,12 +199,8 @@ wanted-fits section held = elim (cases_lt (length held) 12) [
       let all : take (wanted_size section held) held ≡ held = take_all (wanted_size section held) held (omega (arith, short, wanted-short section held short)) in
       subst (λ t. length t ≤ wanted_size section t) (sym all) (omega (arith, short, wanted-short section held short))
   | inr long ↦
-      let least = wanted-least section held long in
-      let part = take (wanted_size section held) held in
       let size = length-take (wanted_size section held) held in
-      let same : wanted_size section held ≡ wanted_size section part =
-      ap (wanted_size section) (sym (take-append-drop (wanted_size section held) held))
-      ∙ wanted-more section part (drop (wanted_size section held) held) (omega (arith, size, long, least)) in
+      let same = wanted-part section held long in
       omega (arith, size, same)
 ]
 
@@ -206,12 +210,8 @@ pub wanted-front : (section : Option Order) (held : List ℕ) → length (take (
 wanted-front section held few = elim (cases_lt (length held) 12) [
   | inl short ↦ omega (arith, short, wanted-short section held short)
   | inr long ↦
-      let least = wanted-least section held long in
-      let part = take (wanted_size section held) held in
       let size = length-take (wanted_size section held) held in
-      let same : wanted_size section held ≡ wanted_size section part =
-      ap (wanted_size section) (sym (take-append-drop (wanted_size section held) held))
-      ∙ wanted-more section part (drop (wanted_size section held) held) (omega (arith, size, long, least)) in
+      let same = wanted-part section held long in
       omega (arith, size, same, few)
 ]
 

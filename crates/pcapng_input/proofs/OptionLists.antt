@@ -1,7 +1,8 @@
 -- The options of a text, by what comes next in it.
-use Rattle.std.proofs.Common.{◌≡◌, ◌∙◌, refl, sym, ap, ℕ, zero, suc, ◌+◌, ◌<◌, ◌≤◌, Bool, true, false, List, [], length, drop, arith, length-drop}
+use Rattle.std.proofs.Common.{◌≡◌, ◌∙◌, refl, sym, ap, ℕ, ◌+◌, ◌≤◌, Bool, true, false, List, [], length, drop, arith, length-drop}
 use Rattle.std.specs.Prelude.{◌==◌, nat_lt, if◌then◌else◌}
 use Rattle.std.proofs.lemmas.Bool.{ltb-false}
+use Rattle.pcap_io.proofs.Bounded.{one_step}
 use Rattle.pcap_io.specs.Style.{number_of}
 use Rattle.pcap_io.specs.declared.style.Order.{Order}
 use Rattle.pcapng_input.specs.Options.{AnotherOption, BlockOption, NextOption, NoOption, OptionList, block_option_at, block_options, first_options, next_option, option_before, option_by_length, options_by, padded}
@@ -34,19 +35,12 @@ same_options : (f g : List ℕ → OptionList) (next : NextOption) (n : ℕ) →
 same_options f g (AnotherOption o rest) n less same = ap (option_before o) (same rest less)
 same_options f g (NoOption is_whole) n less same = refl
 
--- a bound above the octets leaves no option out
-first_options-enough : (n m : ℕ) (order : Order) (text : List ℕ) → length text < n → length text < m → first_options n order text ≡ first_options m order text
-unfolding first_options
-first_options-enough zero m order text a b = absurd (omega arith)
-first_options-enough (suc n) zero order text a b = absurd (omega arith)
-first_options-enough (suc n) (suc m) order text a b =
-    same_options (first_options n order) (first_options m order) (next_option order text) (length text) (next_option-less order text) (λ rest less. first_options-enough n m order rest (omega arith) (omega arith))
-
 -- the options of a text are what comes next and the options behind it
 options-next : (order : Order) (text : List ℕ) → block_options order text ≡ options_by (block_options order) (next_option order text)
 unfolding block_options first_options
 options-next order text =
-    same_options (first_options (length text) order) (block_options order) (next_option order text) (length text) (next_option-less order text) (λ rest less. first_options-enough (length text) (suc (length rest)) order rest (omega arith) (omega arith))
+    one_step length (λ n. first_options n order) (λ more text. options_by more (next_option order text)) (λ n text. refl)
+    (λ f g text same. same_options f g (next_option order text) (length text) (next_option-less order text) (λ rest less. same rest (omega (arith, less)))) text
 
 pub options_behind : (order : Order) (text : List ℕ) (o : BlockOption) (rest : List ℕ) → AnotherOption o rest ≡ next_option order text → block_options order text ≡ option_before o (block_options order rest)
 options_behind order text o rest is = options-next order text ∙ ap (options_by (block_options order)) (sym is)

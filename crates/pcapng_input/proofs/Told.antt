@@ -1,15 +1,14 @@
 -- The classic capture is read as the packets.
-use Rattle.std.proofs.Common.{◌≡◌, ◌∙◌, refl, sym, ap, ℕ, ◌/◌, ◌%◌, List, [], ◌∷◌, ◌++◌, length, arith, append_assoc, Result, Ok}
+use Rattle.std.proofs.Common.{◌≡◌, ◌∙◌, refl, sym, ap, ℕ, List, [], ◌∷◌, ◌++◌, append_assoc, Result, Ok}
 use Rattle.std.specs.List.{AllByRecursion, flat_map}
 use Rattle.std.proofs.lemmas.List.Concat.{flat_map-cons}
 use Rattle.header_octets.specs.Octets.{IsText}
 use Rattle.pcap_io.proofs.Opened.{opened-is}
-use Rattle.pcap_io.proofs.RoundTrip.{opened-written}
+use Rattle.pcap_io.proofs.RoundTrip.{opened-written, record_text}
 use Rattle.pcap_io.specs.Capture.{IsCapture, opened}
 use Rattle.pcap_io.specs.Next.{Cut}
 use Rattle.pcap_io.specs.Reading.{AreRecordTexts}
 use Rattle.pcap_io.specs.Record.{IsWithinLimits, Record, longest}
-use Rattle.pcap_io.specs.RecordText.{IsRecordText}
 use Rattle.pcap_io.specs.Style.{octets_of}
 use Rattle.pcap_io.specs.Written.{written, written_record, written_style}
 use Rattle.pcap_io.specs.declared.style.Order.TheVariants.{Little}
@@ -18,20 +17,6 @@ use Rattle.pcapng_input.specs.Classic.{capture_by, classic_end, classic_text}
 use Rattle.pcapng_input.specs.Reading.{EndsCut, EndsFaulty, EndsWhole, TextEnd, packets_of}
 use Rattle.pcapng_input.specs.declared.fault.PcapngFault.{PcapngFault}
 use Rattle.pcapng_input.specs.declared.interface.Selection.{Selection}
-
-record_text : (r : Record) → IsWithinLimits r → IsRecordText written_style r (written_record r)
-unfolding written_record
-record_text r fits = record {
-  header = record { seconds = r.moment / 1000000000; fraction = r.moment % 1000000000; captured = length r.octets; original = r.original };
-  seconds_fit = omega (arith, fits.moment);
-  fraction_fits = omega arith;
-  captured_fits = fits.length;
-  original_fits = fits.original;
-  moment = omega arith;
-  captured = refl;
-  original = refl;
-  whole = refl;
-}
 
 -- records and one octet of a further one
 cut_texts : (rs : List Record) → AllByRecursion IsWithinLimits rs → AreRecordTexts written_style rs (0 ∷ []) (flat_map written_record rs ++ 0 ∷ [])

@@ -2,7 +2,7 @@
 ghost use Rattle.std.specs.Prelude.{◌≡◌, ◌<◌, ◌≤◌, ℕ, [], Option, Some, None, min, length, option_map, take, IfOk, IfSome, IsSome, OnOk};
 ghost use Rattle.std.specs.Io.{ReadsAtMost};
 ghost use Rattle.std.specs.Io.KnownBytes.{ReadConsumes};
-ghost use Rattle.pcap_stream.specs.Supply.{Spends};
+ghost use Rattle.pcap_stream.specs.Supply.{Spends, untouched};
 ghost use Rattle.pcapng_input.specs.Adapted.{is_of_one, told_text};
 ghost use Rattle.pcapng_input.specs.Adapter.{IsAllTold, KeepsFault, KeepsTold, TellsBehind};
 ghost use Rattle.pcapng_input.specs.Adapter.{left_out_by, met_fault, told, told_fault, told_octets};
@@ -75,13 +75,8 @@ impl<'s, R: Input> Adapter<'s, R> {
     where
         R: Drop,
         ensures told { IfOk result (λ adapter. told adapter ≡ option_map (told_text selection.entry) (R.remaining input)) }
-        ensures supply { IfOk result (λ adapter. adapter.below.supply ≡ record {
-          rest = R.remaining input;
-          calls = R.calls input;
-          failures = R.failures input;
-          ends = 0;
-          reads = min reads 35184372088832;
-        }) }
+        ensures supply { IfOk result (λ adapter. adapter.below.supply
+            ≡ untouched (R.remaining input) (R.calls input) (R.failures input) (min reads 35184372088832)) }
         ensures fault { IfOk result (λ adapter. met_fault adapter ≡ None) }
     {
         let reads = if reads < MOST_READS {

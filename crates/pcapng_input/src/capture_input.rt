@@ -12,7 +12,7 @@ ghost use Rattle.std.specs.Prelude.{◌≡◌, ◌<◌, ℕ, Option, None, Some,
 ghost use Rattle.std.specs.Io.{ReadsAtMost};
 ghost use Rattle.std.specs.Io.KnownBytes.{ReadConsumes};
 ghost use Rattle.pcap_stream.specs.Counts.{CountsFaults, GoesOnBy};
-ghost use Rattle.pcap_stream.specs.Supply.{Spends};
+ghost use Rattle.pcap_stream.specs.Supply.{Spends, untouched};
 ghost use Rattle.pcapng_input.specs.Adapted.{told_text};
 ghost use Rattle.pcapng_input.specs.Adapter.{IsAllTold, KeepsFault, left_out_by, met_fault, told, told_fault, told_octets};
 ghost use Rattle.pcapng_input.specs.Stops.{FailsFor};
@@ -53,13 +53,8 @@ impl<'s, R: Input> CaptureInput<'s, R> {
     where
         R: Drop,
         ensures told { IfOk result (λ made. told made.adapter ≡ option_map (told_text selection.entry) (R.remaining input)) }
-        ensures supply { IfOk result (λ made. made.adapter.below.supply ≡ record {
-          rest = R.remaining input;
-          calls = R.calls input;
-          failures = R.failures input;
-          ends = 0;
-          reads = min reads 35184372088832;
-        }) }
+        ensures supply { IfOk result (λ made. made.adapter.below.supply
+            ≡ untouched (R.remaining input) (R.calls input) (R.failures input) (min reads 35184372088832)) }
         ensures fault { IfOk result (λ made. met_fault made.adapter ≡ None) }
     {
         let adapter = Adapter::new(alloc, input, selection, reads)?;

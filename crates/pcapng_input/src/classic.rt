@@ -1,32 +1,15 @@
 //! The classic capture of a pcapng text.
-ghost use Rattle.std.specs.Prelude.{◌≡◌, ◌≤◌, ◌<◌, ◌^◌, ◌++◌, length, IfOk, IfErr, IfSome, OnOk, Ok};
-ghost use Rattle.pcap_io.specs.Record.{IsWithinLimits, last_moment};
-ghost use Rattle.pcap_io.specs.Written.{record_header_of, written_record};
+ghost use Rattle.std.specs.Prelude.{◌≡◌, ◌<◌, ◌^◌, ◌++◌, length, IfOk, IfErr, IfSome, OnOk, Ok};
+ghost use Rattle.pcap_io.specs.Record.{IsWithinLimits};
+ghost use Rattle.pcap_io.specs.Written.{written_record};
 ghost use Rattle.pcapng_input.specs.Classic.{IsErrorOf, classic_text, found_text};
 
 use crate::block::{NextBlock, next_block};
 use crate::context::Context;
 use crate::fault::PcapngError;
 use crate::interface::Selection;
-use byteorder::{ByteOrder, LittleEndian};
-use pcap_io::{RECORD_HEADER_LENGTH, Record, put_header};
+use pcap_io::{Record, put_header, record_head};
 use std::alloc::{AllocError, Global};
-
-/// A second in nanoseconds.
-const SECOND: u64 = 1_000_000_000;
-
-/// What stands before the octets of a record, by its moment, how many octets it has, and how many the frame had.
-pub fn record_head(moment: u64, captured: u32, original: u32) -> [u8; RECORD_HEADER_LENGTH]
-    requires { moment ≤ last_moment }
-    ensures { result ≡ record_header_of moment captured original }
-{
-    let mut header = [0; RECORD_HEADER_LENGTH];
-    LittleEndian::write_u32(&mut header, (moment / SECOND) as u32);
-    LittleEndian::write_u32(&mut header[4..], (moment % SECOND) as u32);
-    LittleEndian::write_u32(&mut header[8..], captured);
-    LittleEndian::write_u32(&mut header[12..], original);
-    header
-}
 
 /// Adds a record.
 pub fn put_packet(out: &mut Vec<u8>, packet: &Record<'_>) -> Result<(), AllocError>

@@ -10,7 +10,7 @@ ghost use Rattle.std.specs.Prelude.{◌≡◌, ◌≤◌, ◌<◌, ◌+◌, ◌-
 ghost use Rattle.std.specs.Io.{ReadsAtMost};
 ghost use Rattle.std.specs.Io.KnownBytes.{Consumes, IsAtEnd, Keeps, ReadConsumes};
 ghost use Rattle.pcap_stream.specs.Counts.{CountsFaults, GoesOnBy};
-ghost use Rattle.pcap_stream.specs.Supply.{GivesUp, Spends};
+ghost use Rattle.pcap_stream.specs.Supply.{GivesUp, Spends, untouched};
 ghost use Rattle.pcapng_input.specs.Adapter.{IsFetched};
 ghost use Rattle.pcapng_input.specs.Block.{longest_block};
 ghost use Rattle.pcapng_input.specs.Stops.{StopsFor};
@@ -120,13 +120,7 @@ impl<R: Input> Gathered<R> {
         R: Drop,
         ensures { IfOk result (λ gathered. gathered ≡ record {
           held = [];
-          supply = record {
-            rest = R.remaining input;
-            calls = R.calls input;
-            failures = R.failures input;
-            ends = 0;
-            reads = reads;
-          };
+          supply = untouched (R.remaining input) (R.calls input) (R.failures input) reads;
         }) }
     {
         let room = vec![in alloc; 0u8; EMPTY_BLOCK]?;

@@ -47,10 +47,11 @@ mod stop;
 
 pub use block::{Block, NextBlock, is_pcapng, next_block};
 pub use capture_input::CaptureInput;
-pub use classic::{classic_of, put_packet, record_head};
+pub use classic::{classic_of, put_packet};
 pub use fault::{BlockFault, PcapngError, PcapngFault};
 pub use filling::{Filled, fill};
 pub use gathered::Gathered;
 pub use interface::{Interface, Selection, name_told};
 pub use meaning::{BlockMeaning, block_meaning, interface_named};
+pub use pcap_io::record_head;
 pub use stop::Stop;

@@ -3,9 +3,9 @@ ghost use Rattle.std.specs.Prelude.{◌≡◌, ◌≤◌, ◌<◌, ◌+◌, ◌+
 ghost use Rattle.pcap_io.specs.Record.{IsWithinLimits, longest};
 ghost use Rattle.pcap_io.specs.Written.{written_record};
 
-use crate::classic::record_head;
 use crate::room::lengthen;
-use pcap_io::{RECORD_HEADER_LENGTH, Record};
+use pcap_io::{RECORD_HEADER_LENGTH, Record, record_head};
+use pcap_stream::put_behind;
 use std::alloc::{AllocError, Global};
 use std::marker::Model;
 
@@ -28,17 +28,6 @@ impl Model for Ready {
     ghost view = { λ r. take (r.to - r.from) (drop r.from r.room.items) };
 
     ghost invariant = { λ r. (r.from ≤ r.to) × (r.to ≤ length r.room.items) × (24 ≤ length r.room.items) };
-}
-
-/// Puts a text behind the first `at` octets of a room, and says where it ends.
-fn put_behind(room: &mut [u8], at: usize, text: &[u8]) -> usize
-    requires { at + length text.now ≤ length room.old }
-    ensures end { result ≡ at + length text.now }
-    ensures text { take result room.new ≡ take at room.old ++ text.now }
-{
-    let end = at + text.len();
-    room[at..end].copy_from_slice(text);
-    end
 }
 
 /// Puts a record behind the first `at` octets of a room, and says where it ends. None: there is no room for it.

@@ -10,14 +10,13 @@ ghost use Rattle.pcapng_input.specs.Reading.{record_meant, step_of};
 ghost use Rattle.pcapng_input.specs.State.{IsSettled, size_wanted, wanted_size, wanting_by};
 
 use crate::block::{Block, EMPTY_BLOCK, LONGEST_BLOCK, NextBlock, next_block, order_at};
-use crate::classic::record_head;
 use crate::context::Context;
 use crate::fault::{PcapngError, PcapngFault};
 use crate::interface::Selection;
 use crate::meaning::BlockMeaning;
 use crate::number::number4;
 use crate::ready::Ready;
-use pcap_io::{Order, Record};
+use pcap_io::{Order, Record, record_head};
 use std::alloc::AllocError;
 
 /// What is made of the octets that were read of a block.

@@ -3,7 +3,7 @@ use capture_survey::{Report, survey_capture};
 use pcap_stream::Source;
 use std::alloc::Global;
 use std::test::Fail;
-use test_inputs::{in_pieces, octets_of};
+use test_inputs::{in_pieces, octets_of, three_cells};
 use timeline::Tap;
 
 /// Captures: what each is, its tap, its octets as words, and what is told of it, with a slash between two lines.
@@ -94,8 +94,7 @@ fn is_told(alloc: Global, tap: &str, words: &str, expected: &str) -> Result<bool
 #[test]
 fn tells_what_is_in_a_capture(rt: HostRuntime) -> Result<(), Fail> {
     for row in rows().lines() {
-        let (name, rest) = row.split_once(" | ").ok_or("a name")?;
-        let (tap, rest) = rest.split_once(" | ").ok_or("a tap")?;
+        let (name, tap, rest) = three_cells(row)?;
         let (words, expected) = rest.split_once(" | ").ok_or("lines")?;
         assert!(rt; is_told(rt.alloc(), tap, words, expected)?, "{name}");
     }

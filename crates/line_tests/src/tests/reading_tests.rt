@@ -2,6 +2,7 @@
 use part_lines::{LineFacts, Places, read_line};
 use std::alloc::Global;
 use std::test::Fail;
+use test_inputs::three_cells;
 
 /// Lines: what each is, the line without its end, and the number of its event with the places where that was sent, or
 /// `cut`, or a fault.
@@ -59,8 +60,7 @@ fn told(alloc: Global, line: &[u8]) -> Result<String, Fail> {
 #[test]
 fn reads_a_line_as_it_is_written(rt: HostRuntime) -> Result<(), Fail> {
     for row in rows().lines() {
-        let (name, rest) = row.split_once(" | ").ok_or("a name")?;
-        let (line, wanted) = rest.split_once(" | ").ok_or("what is told")?;
+        let (name, line, wanted) = three_cells(row)?;
         let text = format!(in rt.alloc(); "{line}\n")?;
         let found = told(rt.alloc(), text.as_bytes())?;
         assert_eq!(rt; found.as_str(), wanted, "{name}");

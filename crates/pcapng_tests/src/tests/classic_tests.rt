@@ -1,5 +1,5 @@
 //! Texts that are read, and their classic captures.
-use crate::tests::texts::{EDITED, EDITED_CLASSIC, EDITED_CUT, ORDERS};
+use crate::tests::texts::{EDITED, EDITED_CLASSIC, EDITED_CUT, ORDERS, text_of};
 use pcap_io::Capture;
 use pcapng_input::{PcapngError, Selection, classic_of, is_pcapng};
 use std::alloc::Global;
@@ -19,10 +19,12 @@ pub fn is_classic_of(
 /// Behind the first packet of the text begins the second, which is cut.
 #[test]
 fn cuts_where_the_text_is_cut(rt: HostRuntime) -> Result<(), Fail> {
-    for size in [177, EDITED.len() - 1] {
-        let text = EDITED.get(..size).ok_or("a longer text")?;
+    let whole = text_of(rt.alloc(), EDITED)?;
+    let expected = text_of(rt.alloc(), EDITED_CUT)?;
+    for size in [177, whole.len().saturating_sub(1)] {
+        let text = whole.get(..size).ok_or("a longer text")?;
         assert!(rt;
-            is_classic_of(rt.alloc(), EDITED_CUT, Selection::All, text)?,
+            is_classic_of(rt.alloc(), expected.as_slice(), Selection::All, text)?,
             "{size} octets"
         );
     }
@@ -31,7 +33,8 @@ fn cuts_where_the_text_is_cut(rt: HostRuntime) -> Result<(), Fail> {
 
 #[test]
 fn leaves_a_capture_that_is_cut(rt: HostRuntime) -> Result<(), Fail> {
-    let mut read = Capture::open(EDITED_CUT)?;
+    let text = text_of(rt.alloc(), EDITED_CUT)?;
+    let mut read = Capture::open(text.as_slice())?;
     assert!(rt; matches!(read.next(), Some(Ok(_))));
     assert!(rt; read.next().is_none());
     assert!(rt; read.is_cut());
@@ -39,14 +42,16 @@ fn leaves_a_capture_that_is_cut(rt: HostRuntime) -> Result<(), Fail> {
 }
 
 #[test]
-fn tells_the_formats_apart(rt: HostRuntime) {
+fn tells_the_formats_apart(rt: HostRuntime) -> Result<(), Fail> {
     for (text, expected, name) in [
         (ORDERS, true, "big-endian"),
         (EDITED, true, "little-endian"),
         (EDITED_CLASSIC, false, "classic"),
-        (b"\x0A\x0D\x0D", false, "three octets"),
-        (b"\x0A\x0D\x0D\x0A", true, "four octets"),
+        ("0A0D0D", false, "three octets"),
+        ("0A0D0D0A", true, "four octets"),
     ] {
-        assert_eq!(rt; is_pcapng(text), expected, "{name}");
+        let text = text_of(rt.alloc(), text)?;
+        assert_eq!(rt; is_pcapng(text.as_slice()), expected, "{name}");
     }
+    Ok(())
 }

@@ -1,9 +1,9 @@
 //! Texts that have a fault, and what is told of it.
-use crate::tests::texts::{INTERFACE, PACKET, SECTION};
+use crate::tests::texts::text_of;
 use pcapng_input::{Selection, classic_of};
 use std::alloc::{AllocError, Global};
 use std::test::Fail;
-use test_inputs::octets_of;
+use test_inputs::three_cells;
 
 /// Texts that have a fault: what each is, its octets as words, and the fault that it has by the draft.
 const ROWS: &str = "\
@@ -34,20 +34,6 @@ SECTION 010000002000000001000000000000000E000800FFFFFFFFFFFFFFFF20000000 \
 060000002400000000000000000000003F420F0004000000040000006162636424000000 | block 3 at octet 60: BadMoment
 ";
 
-/// The octets of words: blocks by their names, and hexadecimal digits.
-fn text_of(alloc: Global, words: &str) -> Result<Vec<u8>, Fail> {
-    let mut text = Vec::new(alloc);
-    for word in words.split_whitespace() {
-        match word {
-            "SECTION" => text.extend_from_slice(SECTION)?,
-            "INTERFACE" => text.extend_from_slice(INTERFACE)?,
-            "PACKET" => text.extend_from_slice(PACKET)?,
-            digits => text.append(&mut octets_of(alloc, digits)?)?,
-        }
-    }
-    Ok(text)
-}
-
 /// The error of a text, as it prints: nothing where there is none.
 fn error_of(alloc: Global, text: &[u8]) -> Result<String, AllocError> {
     match classic_of(alloc, Selection::All, text) {
@@ -66,8 +52,7 @@ fn has_fault(alloc: Global, words: &str, fault: &str) -> Result<bool, Fail> {
 #[test]
 fn tells_the_first_fault(rt: HostRuntime) -> Result<(), Fail> {
     for row in ROWS.lines() {
-        let (name, rest) = row.split_once(" | ").ok_or("a name")?;
-        let (words, fault) = rest.split_once(" | ").ok_or("a fault")?;
+        let (name, words, fault) = three_cells(row)?;
         assert!(rt; has_fault(rt.alloc(), words, fault)?, "{name}");
     }
     Ok(())
@@ -76,11 +61,12 @@ fn tells_the_first_fault(rt: HostRuntime) -> Result<(), Fail> {
 #[test]
 fn refuses_more_than_4096_interfaces(rt: HostRuntime) -> Result<(), Fail> {
     let mut text = text_of(rt.alloc(), "SECTION")?;
+    let interface = text_of(rt.alloc(), "INTERFACE")?;
     for _interface in 0..4096 {
-        text.extend_from_slice(INTERFACE)?;
+        text.extend_from_slice(interface.as_slice())?;
     }
     assert!(rt; error_of(rt.alloc(), text.as_slice())?.is_empty());
-    text.extend_from_slice(INTERFACE)?;
+    text.extend_from_slice(interface.as_slice())?;
     let error = error_of(rt.alloc(), text.as_slice())?;
     assert_eq!(rt;
         error.as_str(),

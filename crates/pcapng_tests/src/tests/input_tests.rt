@@ -2,9 +2,7 @@
 ghost use Rattle.std.specs.Prelude.{◌≤◌, length, IfOk};
 
 use crate::tests::classic_tests::is_classic_of;
-use crate::tests::texts::{
-    EDITED, EDITED_CLASSIC, INTERFACE, PACKET, PACKET_CLASSIC, ROWS, SECTION, joined,
-};
+use crate::tests::texts::{EDITED, EDITED_CLASSIC, PACKET_CLASSIC, ROWS, text_of};
 use pcap_stream::{DeviceFault, Input};
 use pcapng_input::{CaptureInput, PcapngFault, Selection};
 use std::alloc::{AllocError, Global};
@@ -128,6 +126,9 @@ fn tells_long(
 #[test]
 fn reads_what_editcap_reads(rt: HostRuntime) -> Result<(), Fail> {
     for (text, selection, classic, name) in ROWS {
+        let text = text_of(rt.alloc(), text)?;
+        let classic = text_of(rt.alloc(), classic)?;
+        let (text, classic) = (text.as_slice(), classic.as_slice());
         assert!(rt;
             is_classic_of(rt.alloc(), classic, selection, text)?,
             "{name}"
@@ -144,9 +145,11 @@ fn reads_what_editcap_reads(rt: HostRuntime) -> Result<(), Fail> {
 fn tells_other_texts_as_they_are(rt: HostRuntime) -> Result<(), Fail> {
     for (text, name) in [
         (EDITED_CLASSIC, "a classic capture"),
-        (b"\x0A\x0D\x0D", "three octets"),
-        (b"", "nothing"),
+        ("0A0D0D", "three octets"),
+        ("", "nothing"),
     ] {
+        let text = text_of(rt.alloc(), text)?;
+        let text = text.as_slice();
         assert!(rt;
             always_tells(rt.alloc(), text, Selection::All, text, "")?,
             "{name}"
@@ -158,23 +161,25 @@ fn tells_other_texts_as_they_are(rt: HostRuntime) -> Result<(), Fail> {
 /// Where the packets of one interface are asked for, a classic capture is refused.
 #[test]
 fn takes_one_interface_of_pcapng_alone(rt: HostRuntime) -> Result<(), Fail> {
+    let text = text_of(rt.alloc(), EDITED_CLASSIC)?;
     let one = Selection::Number(0);
     let fault = "block 1 at octet 0: NoSection";
-    assert!(rt; always_tells(rt.alloc(), EDITED_CLASSIC, one, LITTLE_NANO, fault)?);
+    assert!(rt; always_tells(rt.alloc(), text.as_slice(), one, LITTLE_NANO, fault)?);
     Ok(())
 }
 
 /// A packet of an interface that wasn't described stands behind one that is told.
 #[test]
 fn tells_what_stands_in_front_of_a_fault(rt: HostRuntime) -> Result<(), Fail> {
-    let text = joined(rt.alloc(), &[SECTION, INTERFACE, PACKET, SECTION, PACKET])?;
+    let text = text_of(rt.alloc(), "SECTION INTERFACE PACKET SECTION PACKET")?;
+    let expected = text_of(rt.alloc(), PACKET_CLASSIC)?;
     let fault = "block 5 at octet 112: UnknownInterface";
     assert!(rt;
         always_tells(
             rt.alloc(),
             text.as_slice(),
             Selection::All,
-            PACKET_CLASSIC,
+            expected.as_slice(),
             fault
         )?
     );
@@ -192,13 +197,13 @@ fn put_sevens(text: &mut Vec<u8>, count: usize) -> Result<(), AllocError> {
 }
 
 /// A section, an interface, a block of type 5 with 400,000 octets and this second length, and a packet.
-fn with_long_block(alloc: Global, second_length: u32) -> Result<Vec<u8>, AllocError> {
-    let mut text = joined(alloc, &[SECTION, INTERFACE])?;
+fn with_long_block(alloc: Global, second_length: u32) -> Result<Vec<u8>, Fail> {
+    let mut text = text_of(alloc, "SECTION INTERFACE")?;
     put_number(&mut text, 5)?;
     put_number(&mut text, 400_000)?;
     put_sevens(&mut text, 399_988)?;
     put_number(&mut text, second_length)?;
-    text.extend_from_slice(PACKET)?;
+    text.append(&mut text_of(alloc, "PACKET")?)?;
     Ok(text)
 }
 
@@ -208,18 +213,27 @@ fn passes_over_a_long_block(rt: HostRuntime) -> Result<(), Fail> {
     let fault = "block 3 at octet 48: BadLength";
     for (second_length, expected, fault) in [
         (400_000, PACKET_CLASSIC, ""),
-        (400_004, LITTLE_NANO, fault),
+        (400_004, "PCAP", fault),
     ] {
         let text = with_long_block(rt.alloc(), second_length)?;
-        assert!(rt; tells_long(rt.alloc(), text.as_slice(), 4096, expected, fault)?);
+        let expected = text_of(rt.alloc(), expected)?;
+        assert!(rt;
+            tells_long(
+                rt.alloc(),
+                text.as_slice(),
+                4096,
+                expected.as_slice(),
+                fault
+            )?
+        );
     }
     Ok(())
 }
 
 /// A section, an interface, a packet, and one of so many octets at 1970, which are 7.
-fn with_packet_of(alloc: Global, size: u32) -> Result<Vec<u8>, AllocError> {
+fn with_packet_of(alloc: Global, size: u32) -> Result<Vec<u8>, Fail> {
     let length = size.wrapping_add(32);
-    let mut text = joined(alloc, &[SECTION, INTERFACE, PACKET])?;
+    let mut text = text_of(alloc, "SECTION INTERFACE PACKET")?;
     for number in [6, length, 0, 0, 0, size, size] {
         put_number(&mut text, number)?;
     }
@@ -229,8 +243,8 @@ fn with_packet_of(alloc: Global, size: u32) -> Result<Vec<u8>, AllocError> {
 }
 
 /// The classic capture of such a text.
-fn packet_of_classic(alloc: Global, size: u32) -> Result<Vec<u8>, AllocError> {
-    let mut text = joined(alloc, &[PACKET_CLASSIC])?;
+fn packet_of_classic(alloc: Global, size: u32) -> Result<Vec<u8>, Fail> {
+    let mut text = text_of(alloc, PACKET_CLASSIC)?;
     for number in [0, 0, size, size] {
         put_number(&mut text, number)?;
     }
@@ -251,12 +265,15 @@ fn takes_longer_packets_behind_shorter_ones(rt: HostRuntime) -> Result<(), Fail>
 
 /// Whether all of a text is told where the read of this number fails, by reads on both sides of it.
 fn goes_on(alloc: Global, fails_at: u64) -> Result<bool, Fail> {
-    let mut input = opened(alloc, EDITED, Selection::All, 7, fails_at)?;
+    let text = text_of(alloc, EDITED)?;
+    let expected = text_of(alloc, EDITED_CLASSIC)?;
+    let mut input = opened(alloc, text.as_slice(), Selection::All, 7, fails_at)?;
     let mut told = Vec::new(alloc);
     let has_ended = read_on(alloc, &mut input, &mut told, 7)?;
     let fault = fault_of(alloc, &input)?;
     let is_whole = read_on(alloc, &mut input, &mut told, 7)?;
-    Ok(!has_ended && fault.is_empty() && is_whole && told.as_slice() == EDITED_CLASSIC)
+    let is_told = told.as_slice() == expected.as_slice();
+    Ok(!has_ended && fault.is_empty() && is_whole && is_told)
 }
 
 /// A read that failed takes nothing: it goes on with the next.
@@ -271,10 +288,12 @@ fn goes_on_behind_a_read_that_failed(rt: HostRuntime) -> Result<(), Fail> {
 /// The first read tells the format, the second takes all, and the third fails: no octet that was read waits for it.
 #[test]
 fn tells_what_was_read_in_front_of_a_read_that_failed(rt: HostRuntime) -> Result<(), Fail> {
-    let mut input = opened(rt.alloc(), EDITED, Selection::All, 1_000_000, 3)?;
+    let text = text_of(rt.alloc(), EDITED)?;
+    let expected = text_of(rt.alloc(), EDITED_CLASSIC)?;
+    let mut input = opened(rt.alloc(), text.as_slice(), Selection::All, 1_000_000, 3)?;
     let mut told = Vec::new(rt.alloc());
     let has_ended = read_on(rt.alloc(), &mut input, &mut told, 4096)?;
     assert!(rt; !has_ended);
-    assert!(rt; told.as_slice() == EDITED_CLASSIC);
+    assert!(rt; told.as_slice() == expected.as_slice());
     Ok(())
 }

@@ -4,7 +4,7 @@ use Rattle.part_lines.proofs.words.field_behind.Goals as goal
 
 pub returns-in-Some : goal.returns-in-Some
 returns-in-Some c = (
-  behind_found c.args.line.now c.args.from c.in-Some.end c.in-Some.ensures,
+  behind_found 32 c.args.line.now c.args.from c.in-Some.end c.in-Some.ensures,
   spaces_found c.args.line.now c.args.from c.in-Some.end c.in-Some.ensures,
 )
 

@@ -5,12 +5,11 @@ use Rattle.part_merge.specs.Blame.{sink_health}
 use Rattle.part_merge.specs.declared.fault.MergeFault.TheVariants as faults
 use Rattle.part_merge.specs.declared.fault.Target.TheVariants as targets
 use Rattle.part_merge.proofs.Blaming.{health, healths, underlay_writes}
-use Rattle.part_merge.proofs.Handing.{handed_keeps, handed_writes}
-use Rattle.part_merge.proofs.Waits.{handed_out}
+use Rattle.part_merge.proofs.Handing.{handed_on, handed_writes}
 use Rattle.part_merge.proofs.hand_on.hand_on_underlay.Goals as goal
 
 pub returns-in-Ok-clause-kept : goal.returns-in-Ok-clause-kept
-returns-in-Ok-clause-kept g c = handed_keeps {E = WriteFault} c.args.underlay_sink.now c.hand_on_held.new.self (Ok c.in-Ok.field-0) c.in-Ok.ensures
+returns-in-Ok-clause-kept g c = (handed_on {E = WriteFault} c.args.underlay_sink.now c.hand_on_held.new.self (Ok c.in-Ok.field-0) c.in-Ok.ensures).0
 
 pub returns-in-Ok-clause-writes : goal.returns-in-Ok-clause-writes
 returns-in-Ok-clause-writes g c = λ sinks failures.
@@ -22,4 +21,4 @@ returns-in-Err-clause-writes g c = λ sinks failures.
     (refl, handed_writes {T = Unit {0}} c.args.underlay_sink.now c.hand_on_held.new.self (Err c.in-Err.field-0) c.in-Err.ensures)
 
 pub returns-in-Ok-clause-out : goal.returns-in-Ok-clause-out
-returns-in-Ok-clause-out g c = handed_out {E = WriteFault} c.args.underlay_sink.now c.hand_on_held.new.self (Ok c.in-Ok.field-0) c.in-Ok.ensures
+returns-in-Ok-clause-out g c = (handed_on {E = WriteFault} c.args.underlay_sink.now c.hand_on_held.new.self (Ok c.in-Ok.field-0) c.in-Ok.ensures).1

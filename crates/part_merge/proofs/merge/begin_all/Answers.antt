@@ -7,7 +7,7 @@ use Rattle.timeline.specs.declared.source.Tap.TheVariants.{Port, Underlay}
 use Rattle.part_merge.specs.Blame.{sink_health}
 use Rattle.part_merge.specs.declared.fault.MergeFault.TheVariants as faults
 use Rattle.part_merge.specs.declared.fault.Target.TheVariants as targets
-use Rattle.part_merge.proofs.Blaming.{health, healths, place_writes, put_writes, same_set, underlay_writes, writes_behind}
+use Rattle.part_merge.proofs.Blaming.{health, healths, ports_writes, put_writes, same_set, underlay_writes, writes_behind}
 use Rattle.part_merge.proofs.Copying.{put_is_added}
 use Rattle.part_merge.proofs.merge.begin_all.Goals as goal
 
@@ -35,15 +35,9 @@ loop-i-preserved g c =
 
 pub returns-in-Err-clause-writes : goal.returns-in-Err-clause-writes
 returns-in-Err-clause-writes g c = λ failures.
-    let sinks = c.loop-i.port_sinks in
-    let underlay = c.args.underlay_sink.now in
-    let i = c.loop-i.i in
-    let there : i < length sinks = omega (arith, c.loop-i-test.true, c.loop-i.auto.port_sinks) in
-    let old = slice_index_or sinks i c.index-port_sinks-i.result in
-    writes_behind {T = Unit {0}} c.args.port_sinks.now underlay failures sinks underlay failures _ underlay failures (Err (faults.Write (targets.Capture (Port (i + 1)))))
-    (ap (λ l. health failures (healths l (sink_health underlay))) c.loop-i.invariant.writes)
-    (place_writes {T = Unit {0}} sinks underlay c.begin.new.self c.index-port_sinks-i.result failures i (i + 1) (Err (faults.Write (targets.Capture (Port (i + 1))))) there refl
-    (refl, put_writes {T = Unit {0}} old c.begin.new.self written_header (Err c.in-Err.field-0) c.in-Err.ensures))
+    let there : c.loop-i.i < length c.loop-i.port_sinks = omega (arith, c.loop-i-test.true, c.loop-i.auto.port_sinks) in
+    ports_writes {T = Unit {0}} c.args.port_sinks.now c.loop-i.port_sinks c.args.underlay_sink.now c.begin.new.self c.index-port_sinks-i.result failures c.loop-i.i (Err (faults.Write (targets.Capture (Port (c.loop-i.i + 1))))) c.loop-i.invariant.writes there
+    (refl, put_writes {T = Unit {0}} (slice_index_or c.loop-i.port_sinks c.loop-i.i c.index-port_sinks-i.result) c.begin.new.self written_header (Err c.in-Err.field-0) c.in-Err.ensures)
 
 pub returns-in-Ok-clause-writes : goal.returns-in-Ok-clause-writes
 returns-in-Ok-clause-writes g c = λ failures.

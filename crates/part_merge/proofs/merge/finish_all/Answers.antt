@@ -1,17 +1,12 @@
-use Rattle.std.proofs.Common.{◌≢◌, ◌∙◌, ◌<◌, [], false, None, Err, refl, sym, ap, subst, length, slice_index_or, arith}
+use Rattle.std.proofs.Common.{◌≢◌, ◌∙◌, ◌<◌, [], false, Err, refl, sym, ap, subst, length, slice_index_or, arith}
 use Rattle.std.proofs.lemmas.List.{drop_all, get_or-set_other, length-set}
-use Rattle.pcap_stream.specs.Sink.{Drain}
-use Rattle.part_merge.specs.Blame.{Health, outputs_health, part_health}
+use Rattle.part_merge.specs.Blame.{outputs_health, part_health}
 use Rattle.part_merge.specs.Coming.{Holds, OpenPart}
-use Rattle.part_merge.proofs.Blaming.{reads_behind, same_set, set_reads, writes_behind}
+use Rattle.part_merge.proofs.Blaming.{lines_alone, lines_writes, reads_behind, same_set, set_reads}
 use Rattle.part_merge.proofs.Finishing.{all_cuts, more_cuts, no_cuts}
 use Rattle.part_merge.specs.Firsts.{IsNone}
 use Rattle.part_merge.proofs.Numbering.{finished, more_cut, none_cut}
 use Rattle.part_merge.proofs.merge.finish_all.Goals as goal
-
--- no output
-nowhere : Drain
-nowhere = record { written = None; failures = 0; is_failed = false; held = [] }
 
 pub loop-index-init : goal.loop-index-init
 loop-index-init g c = record { others = λ s k le. refl; same = refl; added = λ cuts only. no_cuts cuts (g.W.Output.written c.args.decisions.now); put = none_cut (g.W.Output.written c.args.decisions.now); over = λ none s k lt. absurd (omega (arith, lt)); reads = refl; writes = refl }
@@ -47,7 +42,7 @@ loop-index-preserved g c = record {
       finished c.loop-index.parts c.loop-index.index c.finish.new.self (omega (arith, there, c.loop-index.invariant.same)) (c.loop-index.invariant.over none)
       (c.in_default.ensures.over (subst (λ (s : OpenPart). IsNone s.coming) (sym same) (none c.index-parts-index.result c.loop-index.index there)));
   reads = same_set part_health c.loop-index.parts c.loop-index.index c.finish.new.self c.index-parts-index.result (omega (arith, c.loop-index-test.true, c.loop-index.invariant.same)) c.in_default.ensures.reads ∙ c.loop-index.invariant.reads;
-  writes = ap (λ (h : Health). h.lines) (c.in_default.ensures.writes [] nowhere) ∙ c.loop-index.invariant.writes;
+  writes = lines_alone _ _ c.in_default.ensures.writes ∙ c.loop-index.invariant.writes;
 }
 
 pub returns-clause-cuts : goal.returns-clause-cuts
@@ -61,9 +56,7 @@ returns-in-Err-clause-reads g c =
     (set_reads {T = Unit {0}} c.loop-index.parts c.loop-index.index c.index-parts-index.result c.finish.new.self (Err c.in-Err.fault) (omega (arith, c.loop-index-test.true, c.loop-index.invariant.same)) c.in-Err.ensures.reads)
 
 pub returns-in-Err-clause-writes : goal.returns-in-Err-clause-writes
-returns-in-Err-clause-writes g c = λ sinks underlay_sink.
-    writes_behind {T = Unit {0}} sinks underlay_sink (g.W.Output.failures c.args.decisions.now) sinks underlay_sink (g.W.Output.failures c.loop-index.decisions) sinks underlay_sink (g.W.Output.failures c.finish.new.decisions) (Err c.in-Err.fault)
-    (ap (outputs_health sinks underlay_sink) c.loop-index.invariant.writes) (c.in-Err.ensures.writes sinks underlay_sink)
+returns-in-Err-clause-writes g c = lines_writes {T = Unit {0}} _ _ _ (Err c.in-Err.fault) c.loop-index.invariant.writes c.in-Err.ensures.writes
 
 pub returns-clause-reads : goal.returns-clause-reads
 returns-clause-reads g c = c.loop-index.invariant.reads

@@ -17,26 +17,26 @@ returns-in-Err-clause-merged g c = λ pieces cuts are. absurd (c.in-Err.ensures.
 pub returns-in-Err-begin_all-clause-merged : goal.returns-in-Err-begin_all-clause-merged
 returns-in-Err-begin_all-clause-merged g c = λ pieces cuts are. device_stops (merged pieces) _ c.in-Err-begin_all.ensures.begun
 
-pub put_all_events-requires : goal.put_all_events-requires
-put_all_events-requires g c = λ s k lt. omega (arith, c.in_default.ensures.all s k lt, c.begin_all.auto.port_sinks)
+pub put_events-requires : goal.put_events-requires
+put_events-requires g c = λ s k lt. omega (arith, c.in_default.ensures.all s k lt, c.begin_all.auto.port_sinks)
 
-pub returns-in-Err-put_all_events-clause-merged : goal.returns-in-Err-put_all_events-clause-merged
-returns-in-Err-put_all_events-clause-merged g c = λ pieces cuts are.
+pub returns-in-Err-put_events-clause-merged : goal.returns-in-Err-put_events-clause-merged
+returns-in-Err-put_events-clause-merged g c = λ pieces cuts are.
     let same : length c.args.port_sinks.now ≡ length c.begin_all.new.port_sinks = omega (arith, c.begin_all.auto.port_sinks) in
-    c.in-Err-put_all_events.ensures.events pieces (cut_lines cuts) (subst (λ (n : ℕ). AllHold n pieces (cut_lines cuts) c.args.parts.now) same are.hold) are.rise are.apart
+    c.in-Err-put_events.ensures.events pieces (cut_lines cuts) (subst (λ (n : ℕ). AllHold n pieces (cut_lines cuts) c.args.parts.now) same are.hold) are.rise are.apart
 
 pub finish_all-requires-clause-counts : goal.finish_all-requires-clause-counts
-finish_all-requires-clause-counts g c = λ s k lt. omega (arith, c.in_default-put_all_events.ensures.counts s k lt, c.put_all_events.auto.port_sinks)
+finish_all-requires-clause-counts g c = λ s k lt. omega (arith, c.in_default-put_events.ensures.counts s k lt, c.put_events.auto.port_sinks)
 
 pub returns-clause-merged : goal.returns-clause-merged
 returns-clause-merged g c = λ pieces cuts are.
     let same : length c.args.port_sinks.now ≡ length c.begin_all.new.port_sinks = omega (arith, c.begin_all.auto.port_sinks) in
-    let also : length c.begin_all.new.port_sinks ≡ length c.put_all_events.new.port_sinks = omega (arith, c.put_all_events.auto.port_sinks) in
-    let put = c.in_default-put_all_events.ensures.events pieces (cut_lines cuts) (subst (λ (n : ℕ). AllHold n pieces (cut_lines cuts) c.args.parts.now) same are.hold) are.rise are.apart in
-    let only = subst (λ (n : ℕ). OnlyCuts n (cut_lines cuts) c.put_all_events.new.parts) also put.1.hold in
-    unless_missing (merged pieces) (Appends (g.W.Output.written c.put_all_events.new.decisions) (g.W.Output.written c.finish_all.new.decisions) (concat (side_by_side (cut_lines cuts)))) _ c.finish_all.result put.0
-    (λ cut. adds_all (length c.args.port_sinks.now) (merged pieces) cuts c.args.port_sinks.now c.args.underlay_sink.now c.begin_all.new.port_sinks c.begin_all.new.underlay_sink c.put_all_events.new.port_sinks c.put_all_events.new.underlay_sink
-    (g.W.Output.written c.args.decisions.now) (g.W.Output.written c.put_all_events.new.decisions) (g.W.Output.written c.finish_all.new.decisions) refl (omega (arith, same)) (omega (arith, same, also)) c.in_default-begin_all.ensures.begun put.1.added put.1.lines cut)
+    let also : length c.begin_all.new.port_sinks ≡ length c.put_events.new.port_sinks = omega (arith, c.put_events.auto.port_sinks) in
+    let put = c.in_default-put_events.ensures.events pieces (cut_lines cuts) (subst (λ (n : ℕ). AllHold n pieces (cut_lines cuts) c.args.parts.now) same are.hold) are.rise are.apart in
+    let only = subst (λ (n : ℕ). OnlyCuts n (cut_lines cuts) c.put_events.new.parts) also put.1.hold in
+    unless_missing (merged pieces) (Appends (g.W.Output.written c.put_events.new.decisions) (g.W.Output.written c.finish_all.new.decisions) (concat (side_by_side (cut_lines cuts)))) _ c.finish_all.result put.0
+    (λ cut. adds_all (length c.args.port_sinks.now) (merged pieces) cuts c.args.port_sinks.now c.args.underlay_sink.now c.begin_all.new.port_sinks c.begin_all.new.underlay_sink c.put_events.new.port_sinks c.put_events.new.underlay_sink
+    (g.W.Output.written c.args.decisions.now) (g.W.Output.written c.put_events.new.decisions) (g.W.Output.written c.finish_all.new.decisions) refl (omega (arith, same)) (omega (arith, same, also)) c.in_default-begin_all.ensures.begun put.1.added put.1.lines cut)
     (c.finish_all.ensures.cuts (cut_lines cuts) only)
 
 pub returns-in-Err-clause-reads : goal.returns-in-Err-clause-reads
@@ -51,31 +51,31 @@ returns-in-Err-begin_all-clause-reads g c = no_read {T = Unit {0}} _ _ (Err c.in
 pub returns-in-Err-begin_all-clause-writes : goal.returns-in-Err-begin_all-clause-writes
 returns-in-Err-begin_all-clause-writes g c = c.in-Err-begin_all.ensures.writes (g.W.Output.failures c.args.decisions.now)
 
-pub returns-in-Err-put_all_events-clause-reads : goal.returns-in-Err-put_all_events-clause-reads
-returns-in-Err-put_all_events-clause-reads g c = c.in-Err-put_all_events.ensures.reads
+pub returns-in-Err-put_events-clause-reads : goal.returns-in-Err-put_events-clause-reads
+returns-in-Err-put_events-clause-reads g c = c.in-Err-put_events.ensures.reads
 
-pub returns-in-Err-put_all_events-clause-writes : goal.returns-in-Err-put_all_events-clause-writes
-returns-in-Err-put_all_events-clause-writes g c =
+pub returns-in-Err-put_events-clause-writes : goal.returns-in-Err-put_events-clause-writes
+returns-in-Err-put_events-clause-writes g c =
     let failures = g.W.Output.failures c.args.decisions.now in
-    writes_behind {T = Unit {0}} c.args.port_sinks.now c.args.underlay_sink.now failures c.begin_all.new.port_sinks c.begin_all.new.underlay_sink failures c.put_all_events.new.port_sinks c.put_all_events.new.underlay_sink (g.W.Output.failures c.put_all_events.new.decisions)
-    (Err c.in-Err-put_all_events.fault) (c.in_default-begin_all.ensures.writes failures) c.in-Err-put_all_events.ensures.writes
+    writes_behind {T = Unit {0}} c.args.port_sinks.now c.args.underlay_sink.now failures c.begin_all.new.port_sinks c.begin_all.new.underlay_sink failures c.put_events.new.port_sinks c.put_events.new.underlay_sink (g.W.Output.failures c.put_events.new.decisions)
+    (Err c.in-Err-put_events.fault) (c.in_default-begin_all.ensures.writes failures) c.in-Err-put_events.ensures.writes
 
 pub returns-clause-reads : goal.returns-clause-reads
-returns-clause-reads g c = reads_behind c.args.parts.now c.put_all_events.new.parts c.finish_all.new.parts c.finish_all.result c.in_default-put_all_events.ensures.reads c.finish_all.ensures.reads
+returns-clause-reads g c = reads_behind c.args.parts.now c.put_events.new.parts c.finish_all.new.parts c.finish_all.result c.in_default-put_events.ensures.reads c.finish_all.ensures.reads
 
 pub returns-clause-writes : goal.returns-clause-writes
 returns-clause-writes g c =
     let failures = g.W.Output.failures c.args.decisions.now in
-    writes_behind c.args.port_sinks.now c.args.underlay_sink.now failures c.put_all_events.new.port_sinks c.put_all_events.new.underlay_sink (g.W.Output.failures c.put_all_events.new.decisions) c.put_all_events.new.port_sinks c.put_all_events.new.underlay_sink
-    (g.W.Output.failures c.finish_all.new.decisions) c.finish_all.result (c.in_default-put_all_events.ensures.writes ∙ c.in_default-begin_all.ensures.writes failures) (c.finish_all.ensures.writes c.put_all_events.new.port_sinks c.put_all_events.new.underlay_sink)
+    writes_behind c.args.port_sinks.now c.args.underlay_sink.now failures c.put_events.new.port_sinks c.put_events.new.underlay_sink (g.W.Output.failures c.put_events.new.decisions) c.put_events.new.port_sinks c.put_events.new.underlay_sink
+    (g.W.Output.failures c.finish_all.new.decisions) c.finish_all.result (c.in_default-put_events.ensures.writes ∙ c.in_default-begin_all.ensures.writes failures) (c.finish_all.ensures.writes c.put_events.new.port_sinks c.put_events.new.underlay_sink)
 
 pub returns-clause-numbered : goal.returns-clause-numbered
 returns-clause-numbered g c =
-    let events = c.in_default-put_all_events.ensures.numbered in
-    on_ok_weaker c.finish_all.result (all_lines events.0 (g.W.Output.written c.args.decisions.now) (g.W.Output.written c.put_all_events.new.decisions) (g.W.Output.written c.finish_all.new.decisions) events.1) c.finish_all.ensures.put
+    let events = c.in_default-put_events.ensures.numbered in
+    on_ok_weaker c.finish_all.result (all_lines events.0 (g.W.Output.written c.args.decisions.now) (g.W.Output.written c.put_events.new.decisions) (g.W.Output.written c.finish_all.new.decisions) events.1) c.finish_all.ensures.put
 
 pub returns-clause-read : goal.returns-clause-read
-returns-clause-read g c = on_ok_weaker c.finish_all.result (λ over. over c.in_default-put_all_events.ensures.over) c.finish_all.ensures.over
+returns-clause-read g c = on_ok_weaker c.finish_all.result (λ over. over c.in_default-put_events.ensures.over) c.finish_all.ensures.over
 
 pub returns-in-Err-clause-waits : goal.returns-in-Err-clause-waits
 returns-in-Err-clause-waits g c = none_waits {T = Unit {0}} _ (Err c.in-Err.fault) c.in-Err.ensures.no_read
@@ -85,4 +85,4 @@ returns-in-Err-begin_all-clause-waits g c = none_waits {T = Unit {0}} _ (Err c.i
 
 pub returns-clause-waits : goal.returns-clause-waits
 returns-clause-waits g c =
-    both_waits c.args.may_wait c.put_all_events.new.port_sinks c.put_all_events.new.underlay_sink (g.W.Output.held c.finish_all.new.decisions) c.finish_all.result c.in_default-put_all_events.ensures.out c.finish_all.ensures.waits
+    both_waits c.args.may_wait c.put_events.new.port_sinks c.put_events.new.underlay_sink (g.W.Output.held c.finish_all.new.decisions) c.finish_all.result c.in_default-put_events.ensures.out c.finish_all.ensures.waits

@@ -4,4 +4,4 @@ use Rattle.lonely_records.proofs.words.Ip6WordDisplay.fmt.Goals as goal
 
 pub returns-clause-writes : goal.returns-clause-writes
 unfolding eight_word
-returns-clause-writes g c = rw (← c.eight_at.ensures, ← c.eight_at-2.ensures) (search rules)
+returns-clause-writes g c = rw (← c.array_of.ensures, ← c.array_of-2.ensures) (search rules)

@@ -4,11 +4,9 @@ use Rattle.pcap_io.specs.Written.{whole_frame, written_record}
 use Rattle.pcap_stream.specs.Sink.{IsPut}
 use Rattle.pcap_stream.specs.declared.fault.WriteFault.{WriteFault}
 use Rattle.pcap_stream.specs.Source.{MatchRead as MatchSource, Stream, holds_next, lent}
-use Rattle.part_merge.specs.Blame.{CopyReads}
 use Rattle.part_merge.specs.Copied.{IsDeviceStop}
 use Rattle.part_merge.specs.Left.{IsAdded, IsLeft}
-use Rattle.part_merge.specs.declared.capture.Stop.{Stop}
-use Rattle.part_merge.proofs.Blaming.{fill_reads, put_writes, stop_reads, stop_writes}
+use Rattle.part_merge.proofs.Blaming.{filled_reads, put_writes, stop_writes, unfilled_reads}
 use Rattle.part_merge.proofs.Copying.{err_stop, filled, lends, put_is_added, sound_written}
 use Rattle.part_merge.proofs.Waits.{stop_waits}
 use Rattle.part_merge.proofs.capture.Capture.copy.Goals as goal
@@ -56,27 +54,23 @@ returns-clause-copied g c = λ text rest written left.
 
 pub returns-in-Err-clause-reads : goal.returns-in-Err-clause-reads
 returns-in-Err-clause-reads g c =
-    subst (λ (s : Stream). CopyReads {T = Unit {0}} s c.fill.new.self (Err c.stop_by.result)) c.self.view_is
-    (subst (λ (e : Stop). CopyReads {T = Unit {0}} c.self.inside.source c.fill.new.self (Err e)) (sym c.stop_by.ensures)
-    (stop_reads c.self.inside.source c.fill.new.self c.in-Err.fault (fill_reads c.self.inside.source c.fill.new.self (Err c.in-Err.fault) c.in-Err.ensures.filled c.in-Err.ensures.answer)))
+    unfilled_reads c.args.self.now c.self.inside.source c.fill.new.self c.in-Err.fault c.stop_by.result c.self.view_is c.stop_by.ensures c.in-Err.ensures.filled c.in-Err.ensures.answer
 
 pub returns-in-Err-clause-writes : goal.returns-in-Err-clause-writes
 returns-in-Err-clause-writes g c = rw c.stop_by.ensures (stop_writes c.args.sink.now c.in-Err.fault)
 
 pub returns-in_default-head-clause-reads : goal.returns-in_default-head-clause-reads
-returns-in_default-head-clause-reads g c =
-    rw (sym c.self.view_is) (fill_reads c.self.inside.source c.fill.new.self (Ok c.in_default.field-0) c.in_default.ensures.filled c.in_default.ensures.answer)
+returns-in_default-head-clause-reads g c = filled_reads c.args.self.now c.self.inside.source c.fill.new.self c.in_default.field-0 c.self.view_is c.in_default.ensures.filled c.in_default.ensures.answer
 
 pub returns-then-record-clause-reads : goal.returns-then-record-clause-reads
-returns-then-record-clause-reads g c =
-    rw (sym c.self.view_is) (fill_reads c.self.inside.source c.fill.new.self (Ok c.in_default.field-0) c.in_default.ensures.filled c.in_default.ensures.answer)
+returns-then-record-clause-reads g c = filled_reads c.args.self.now c.self.inside.source c.fill.new.self c.in_default.field-0 c.self.view_is c.in_default.ensures.filled c.in_default.ensures.answer
 
 pub returns-clause-reads : goal.returns-clause-reads
 returns-clause-reads g c =
-    let reads = fill_reads c.self.inside.source c.fill.new.self (Ok c.in_default.field-0) c.in_default.ensures.filled c.in_default.ensures.answer in
+    let reads = filled_reads c.args.self.now c.self.inside.source c.fill.new.self c.in_default.field-0 c.self.view_is c.in_default.ensures.filled c.in_default.ensures.answer in
     elim c.match-put.branch [
-      | in-Ok w ↦ rw (w.result-is, sym c.self.view_is) reads
-      | in-Err-put w ↦ rw (w.result-is, sym c.self.view_is) reads
+      | in-Ok w ↦ rw w.result-is reads
+      | in-Err-put w ↦ rw w.result-is reads
     ]
 
 pub returns-clause-writes : goal.returns-clause-writes

@@ -1,10 +1,8 @@
 use Rattle.std.proofs.Common.{◌∙◌, [], sym, ap, subst, Ok, Err}
-use Rattle.pcap_stream.specs.Source.{Stream, ends_cut, lent}
-use Rattle.part_merge.specs.Blame.{CopyReads}
+use Rattle.pcap_stream.specs.Source.{ends_cut, lent}
 use Rattle.part_merge.specs.Copied.{IsDeviceStop}
 use Rattle.part_merge.specs.Left.{IsLeft}
-use Rattle.part_merge.specs.declared.capture.Stop.{Stop}
-use Rattle.part_merge.proofs.Blaming.{fill_reads, stop_reads}
+use Rattle.part_merge.proofs.Blaming.{filled_reads, unfilled_reads}
 use Rattle.part_merge.proofs.Copying.{ends, err_stop, filled, sound_nothing}
 use Rattle.part_merge.proofs.capture.Capture.end.Goals as goal
 
@@ -29,18 +27,13 @@ returns-then-is_cut-clause-ended g c = λ left.
 
 pub returns-in-Err-clause-reads : goal.returns-in-Err-clause-reads
 returns-in-Err-clause-reads g c =
-    subst (λ (s : Stream). CopyReads {T = Unit {0}} s c.fill.new.self (Err c.stop_by.result)) c.self.view_is
-    (subst (λ (e : Stop). CopyReads {T = Unit {0}} c.self.inside.source c.fill.new.self (Err e)) (sym c.stop_by.ensures)
-    (stop_reads c.self.inside.source c.fill.new.self c.in-Err.fault (fill_reads c.self.inside.source c.fill.new.self (Err c.in-Err.fault) c.in-Err.ensures.filled c.in-Err.ensures.answer)))
+    unfilled_reads c.args.self.now c.self.inside.source c.fill.new.self c.in-Err.fault c.stop_by.result c.self.view_is c.stop_by.ensures c.in-Err.ensures.filled c.in-Err.ensures.answer
 
 pub returns-in-Some-clause-reads : goal.returns-in-Some-clause-reads
-returns-in-Some-clause-reads g c =
-    rw (sym c.self.view_is) (fill_reads c.self.inside.source c.fill.new.self (Ok c.in_default.field-0) c.in_default.ensures.filled c.in_default.ensures.answer)
+returns-in-Some-clause-reads g c = filled_reads c.args.self.now c.self.inside.source c.fill.new.self c.in_default.field-0 c.self.view_is c.in_default.ensures.filled c.in_default.ensures.answer
 
 pub returns-then-is_cut-clause-reads : goal.returns-then-is_cut-clause-reads
-returns-then-is_cut-clause-reads g c =
-    rw (sym c.self.view_is) (fill_reads c.self.inside.source c.fill.new.self (Ok c.in_default.field-0) c.in_default.ensures.filled c.in_default.ensures.answer)
+returns-then-is_cut-clause-reads g c = filled_reads c.args.self.now c.self.inside.source c.fill.new.self c.in_default.field-0 c.self.view_is c.in_default.ensures.filled c.in_default.ensures.answer
 
 pub returns-clause-reads : goal.returns-clause-reads
-returns-clause-reads g c =
-    rw (sym c.self.view_is) (fill_reads c.self.inside.source c.fill.new.self (Ok c.in_default.field-0) c.in_default.ensures.filled c.in_default.ensures.answer)
+returns-clause-reads g c = filled_reads c.args.self.now c.self.inside.source c.fill.new.self c.in_default.field-0 c.self.view_is c.in_default.ensures.filled c.in_default.ensures.answer

@@ -1,10 +1,9 @@
-use Rattle.std.proofs.Common.{◌∙◌, List, [], ap, rules, subst, sym}
+use Rattle.std.proofs.Common.{List, [], refl, rules, subst, sym}
 use Rattle.std.proofs.lemmas.List.{with_items_is, places}
 use Rattle.pcap_stream.specs.Source.{Stream}
 use Rattle.part_merge.specs.Coming.{OpenPart}
-use Rattle.part_merge.specs.Blame.{CapturesRead}
 use Rattle.part_merge.specs.Left.{AreLeft}
-use Rattle.part_merge.proofs.Blaming.{part_reads}
+use Rattle.part_merge.proofs.Blaming.{captures_part}
 use Rattle.part_merge.proofs.part.Part.end.Goals as goal
 
 pub returns-clause-ended : goal.returns-clause-ended
@@ -16,13 +15,9 @@ returns-clause-ended g c = λ count holds.
 
 pub returns-clause-reads : goal.returns-clause-reads
 returns-clause-reads g c =
-    let ports = c.as_mut_slice.ensures.value ∙ ap (λ (s : OpenPart). s.ports) c.self.view_is in
-    let underlay = ap (λ (s : OpenPart). s.underlay) c.self.view_is in
-    let reads = subst (λ (l : List Stream). CapturesRead c.args.part l c.self.inside.underlay c.end_captures.new.ports c.end_captures.new.underlay c.end_captures.result) ports c.end_captures.ensures.reads in
-    let here = subst (λ (u : Stream). CapturesRead c.args.part c.args.self.now.ports u c.end_captures.new.ports c.end_captures.new.underlay c.end_captures.result) underlay reads in
     rw (with_items_is c.self.inside.ports c.end_captures.new.ports (search (rules, places)))
-    (part_reads c.args.part c.args.self.now (record { reader = c.self.inside.lines; ports = c.end_captures.new.ports; underlay = c.end_captures.new.underlay; coming = c.self.inside.coming }) c.end_captures.result
-    (ap (λ (s : OpenPart). s.reader) c.self.view_is) here)
+    (captures_part c.args.part c.args.self.now _ (record { reader = c.self.inside.lines; ports = c.end_captures.new.ports; underlay = c.end_captures.new.underlay; coming = c.self.inside.coming }) _ c.end_captures.result
+    c.self.view_is c.as_mut_slice.ensures.value refl c.end_captures.ensures.reads)
 
 pub returns-clause-no_write : goal.returns-clause-no_write
 returns-clause-no_write g c = c.end_captures.ensures.no_write

@@ -4,8 +4,8 @@ use Rattle.std.specs.List.{concat}
 use Rattle.part_merge.specs.Firsts.{IsNone}
 use Rattle.part_merge.specs.Numbered.{AddsCuts}
 use Rattle.part_merge.specs.declared.coming.Coming.TheVariants as coming
-use Rattle.part_merge.proofs.Blaming.{no_read, no_write, part_behind, writes_behind}
-use Rattle.part_merge.proofs.Lining.{unless}
+use Rattle.part_merge.proofs.Blaming.{lines_alone, lines_writes, no_read, no_write, part_behind}
+use Rattle.part_merge.proofs.Handing.{unless_then}
 use Rattle.part_merge.proofs.Numbering.{always}
 use Rattle.part_merge.proofs.Waits.{end_waits, kept_cuts, none_waits}
 use Rattle.part_merge.proofs.part.Part.finish.Goals as goal
@@ -32,10 +32,8 @@ returns-in-Err-hand_on_lines_before-clause-reads g c =
     no_read {T = Unit {0}} _ _ (Err c.in-Err-hand_on_lines_before.fault) c.in-Err-hand_on_lines_before.ensures.no_read c.in_default.ensures.reads
 
 pub returns-in-Err-hand_on_lines_before-clause-writes : goal.returns-in-Err-hand_on_lines_before-clause-writes
-returns-in-Err-hand_on_lines_before-clause-writes g c = λ sinks underlay_sink.
-    writes_behind {T = Unit {0}} sinks underlay_sink (g.W.Output.failures c.args.decisions.now) sinks underlay_sink (g.W.Output.failures c.put_cuts.new.decisions) sinks underlay_sink
-    (g.W.Output.failures c.hand_on_lines_before.new.decisions) (Err c.in-Err-hand_on_lines_before.fault) (c.in_default.ensures.writes sinks underlay_sink)
-    (c.in-Err-hand_on_lines_before.ensures.writes sinks underlay_sink)
+returns-in-Err-hand_on_lines_before-clause-writes g c =
+    lines_writes {T = Unit {0}} _ _ _ (Err c.in-Err-hand_on_lines_before.fault) (lines_alone _ _ c.in_default.ensures.writes) c.in-Err-hand_on_lines_before.ensures.writes
 
 pub returns-in-Err-hand_on_lines_before-clause-waits : goal.returns-in-Err-hand_on_lines_before-clause-waits
 returns-in-Err-hand_on_lines_before-clause-waits g c = none_waits {T = Unit {0}} _ (Err c.in-Err-hand_on_lines_before.fault) c.in-Err-hand_on_lines_before.ensures.no_read
@@ -43,9 +41,8 @@ returns-in-Err-hand_on_lines_before-clause-waits g c = none_waits {T = Unit {0}}
 pub returns-clause-cuts : goal.returns-clause-cuts
 returns-clause-cuts g c = λ count cuts holds.
     let put = c.in_default.ensures.cuts count cuts holds in
-    unless (Unit {0}) _ c.end.result
+    unless_then c.end.result _ _ (c.end.ensures.ended count put.0)
     (λ h. Appends-kept (g.W.Output.written c.args.decisions.now) (g.W.Output.written c.put_cuts.new.decisions) (g.W.Output.written c.hand_on_lines_before.new.decisions) (concat cuts) put.1 c.in_default-hand_on_lines_before.ensures.kept)
-    (c.end.ensures.ended count put.0)
 
 pub returns-clause-waits : goal.returns-clause-waits
 returns-clause-waits g c = end_waits c.args.may_wait (g.W.Output.held c.hand_on_lines_before.new.decisions) c.end.result c.in_default-hand_on_lines_before.ensures.out

@@ -1,18 +1,13 @@
-use Rattle.std.proofs.Common.{◌≡◌, ◌∙◌, [], true, false, length, ap, sym, refl, subst, arith, None, Err}
-use Rattle.pcap_stream.specs.Sink.{Drain}
-use Rattle.part_merge.specs.Blame.{Health, outputs_health}
+use Rattle.std.proofs.Common.{◌≡◌, ◌∙◌, [], true, false, length, ap, sym, refl, subst, arith, Err}
+use Rattle.part_merge.specs.Blame.{outputs_health}
 use Rattle.part_merge.specs.Coming.{is_over}
-use Rattle.part_merge.proofs.Blaming.{part_behind, writes_behind}
+use Rattle.part_merge.proofs.Blaming.{lines_alone, lines_writes, part_behind}
 use Rattle.part_merge.proofs.Ending.{all_put, another, never_too_many, none_put, one_put}
 use Rattle.part_merge.proofs.Lining.{over_cut, over_none}
 use Rattle.part_merge.specs.Numbered.{AddsLine}
 use Rattle.part_merge.specs.declared.coming.Coming.{Coming}
 use Rattle.part_merge.proofs.Numbering.{cut_comes, none_cut, nothing_comes, one_cut}
 use Rattle.part_merge.proofs.part.Part.put_cuts.Goals as goal
-
--- no output
-nowhere : Drain
-nowhere = record { written = None; failures = 0; is_failed = false; held = [] }
 
 pub loop-count-init : goal.loop-count-init
 loop-count-init g c = record { ports = refl; cuts = λ count cuts holds. none_put count cuts c.args.self.now (g.W.Output.written c.args.decisions.now) holds; put = none_cut (g.W.Output.written c.args.decisions.now); over = λ none. none; reads = refl; writes = refl }
@@ -45,7 +40,7 @@ loop-count-preserved g c =
           (subst (λ (k : Coming). AddsLine k (g.W.Output.written c.loop-count.decisions) (g.W.Output.written c.put_next_line.new.decisions)) (cut_comes c.loop-count.self.coming not_over) c.in_default.ensures.put);
       over = λ none. c.in_default.ensures.behind_cut (over_cut c.loop-count.self.coming not_over);
       reads = c.in_default.ensures.reads ∙ c.loop-count.invariant.reads;
-      writes = ap (λ (h : Health). h.lines) (c.in_default.ensures.writes [] nowhere) ∙ c.loop-count.invariant.writes;
+      writes = lines_alone _ _ c.in_default.ensures.writes ∙ c.loop-count.invariant.writes;
     }
 
 pub returns-clause-cuts : goal.returns-clause-cuts
@@ -63,9 +58,7 @@ pub returns-in-Err-clause-reads : goal.returns-in-Err-clause-reads
 returns-in-Err-clause-reads g c = part_behind {T = Unit {0}} c.args.part c.args.self.now c.loop-count.self c.put_next_line.new.self (Err c.in-Err.fault) c.loop-count.invariant.reads c.in-Err.ensures.reads
 
 pub returns-in-Err-clause-writes : goal.returns-in-Err-clause-writes
-returns-in-Err-clause-writes g c = λ sinks underlay_sink.
-    writes_behind {T = Unit {0}} sinks underlay_sink (g.W.Output.failures c.args.decisions.now) sinks underlay_sink (g.W.Output.failures c.loop-count.decisions) sinks underlay_sink (g.W.Output.failures c.put_next_line.new.decisions) (Err c.in-Err.fault)
-    (ap (outputs_health sinks underlay_sink) c.loop-count.invariant.writes) (c.in-Err.ensures.writes sinks underlay_sink)
+returns-in-Err-clause-writes g c = lines_writes {T = Unit {0}} _ _ _ (Err c.in-Err.fault) c.loop-count.invariant.writes c.in-Err.ensures.writes
 
 pub returns-clause-reads : goal.returns-clause-reads
 returns-clause-reads g c = c.loop-count.invariant.reads

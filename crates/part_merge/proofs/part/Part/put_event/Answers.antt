@@ -3,12 +3,11 @@ use Rattle.std.specs.Io.KnownBytes.{Appends}
 use Rattle.std.specs.Prelude.{OnOk}
 use Rattle.line_stream.specs.Lines.{Reader, holds_line}
 use Rattle.part_lines.specs.Facts.{facts_of}
-use Rattle.part_merge.specs.Coming.{ComesNext}
 use Rattle.part_merge.specs.Merged.{capture_at, records_at}
 use Rattle.part_merge.specs.Moved.{AreRecords}
 use Rattle.part_merge.proofs.Blaming.{no_read, part_behind, writes_behind}
-use Rattle.part_merge.proofs.Handing.{added_kept}
-use Rattle.part_merge.proofs.Lining.{behind_event, holds_on, unless}
+use Rattle.part_merge.proofs.Handing.{added_kept, unless_then}
+use Rattle.part_merge.proofs.Lining.{behind_event, holds_on}
 use Rattle.part_merge.proofs.Waits.{kept_appends, kept_line, line_waits, none_waits}
 use Rattle.part_merge.specs.Numbered.{AddsLine}
 use Rattle.part_merge.specs.declared.coming.Coming.{Coming}
@@ -28,7 +27,7 @@ returns-clause-event g c = λ count p ps cuts holds.
     let stand = behind_event count p ps cuts old mid holds c.in_default.ensures.reader c.in_default.ensures.coming in
     let line = ap (λ (r : Reader). r.line) c.in_default.ensures.reader ∙ holds.next.line in
     let many : length c.copy_records.new.port_sinks ≡ length c.args.port_sinks.now = omega (arith, c.copy_records.auto.port_sinks) in
-    unless (ComesNext ps cuts c.put_next_line.new.self × Appends (g.W.Output.written c.copy_records.new.decisions) (g.W.Output.written c.put_next_line.new.decisions) mid.reader.line) _ c.put_next_line.result
+    unless_then c.put_next_line.result _ _ (c.put_next_line.ensures.line count ps cuts stand)
     (λ h. (
       holds_on count ps cuts mid c.put_next_line.new.self stand.texts holds.few (c.in_default.ensures.ports ∙ holds.many) moved.0 c.put_next_line.ensures.ports c.put_next_line.ensures.underlay h.0,
       added_kept (λ t. records_at t p.records) c.args.port_sinks.now c.copy_records.new.port_sinks c.hand_on_captures_before.new.port_sinks c.args.underlay_sink.now c.copy_records.new.underlay_sink
@@ -36,7 +35,6 @@ returns-clause-event g c = λ count p ps cuts holds.
       kept_appends (g.W.Output.written c.args.decisions.now) (g.W.Output.written c.copy_records.new.decisions) (g.W.Output.written c.put_next_line.new.decisions) p.line c.in_default.ensures.kept
           (subst (Appends (g.W.Output.written c.copy_records.new.decisions) (g.W.Output.written c.put_next_line.new.decisions)) line h.1),
     ))
-    (c.put_next_line.ensures.line count ps cuts stand)
 
 pub returns-in-Err-hand_on_captures_before-clause-event : goal.returns-in-Err-hand_on_captures_before-clause-event
 returns-in-Err-hand_on_captures_before-clause-event g c = λ count p ps cuts holds. c.in-Err-hand_on_captures_before.ensures.kept

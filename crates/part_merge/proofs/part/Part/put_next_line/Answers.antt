@@ -1,9 +1,8 @@
 use Rattle.std.proofs.Common.{◌∙◌, refl, subst, Err}
 use Rattle.std.proofs.KnownBytes.{Appends-kept}
 use Rattle.std.specs.Io.KnownBytes.{Appends}
-use Rattle.part_merge.specs.Coming.{ComesNext}
-use Rattle.part_merge.proofs.Blaming.{lines_part, no_read, no_write, writes_behind}
-use Rattle.part_merge.proofs.Lining.{unless}
+use Rattle.part_merge.proofs.Blaming.{lines_alone, lines_part, lines_writes, no_read, no_write}
+use Rattle.part_merge.proofs.Handing.{unless_then}
 use Rattle.part_merge.proofs.Numbering.{always}
 use Rattle.line_stream.specs.Lines.{holds_line}
 use Rattle.part_merge.proofs.Waits.{next_waits, none_waits}
@@ -14,7 +13,7 @@ pub returns-clause-line : goal.returns-clause-line
 returns-clause-line g c = λ count pieces cuts stand.
     let put = subst (Appends (g.W.Output.written c.args.decisions.now) (g.W.Output.written c.put_line.new.decisions)) c.line.ensures.line c.in_default.ensures.put in
     let added = Appends-kept (g.W.Output.written c.args.decisions.now) (g.W.Output.written c.put_line.new.decisions) (g.W.Output.written c.hand_on_lines_before.new.decisions) c.args.self.now.reader.line put c.in_default-hand_on_lines_before.ensures.kept in
-    unless (ComesNext pieces cuts c.next.new.self) _ c.next.result (λ next. (next, added)) (c.next.ensures.next count pieces cuts stand)
+    unless_then c.next.result _ _ (c.next.ensures.next count pieces cuts stand) (λ next. (next, added))
 
 pub returns-in-Err-clause-reads : goal.returns-in-Err-clause-reads
 returns-in-Err-clause-reads g c = no_read {T = Unit {0}} _ _ (Err c.in-Err.fault) c.in-Err.ensures.no_read refl
@@ -47,10 +46,8 @@ pub returns-in-Err-hand_on_lines_before-clause-reads : goal.returns-in-Err-hand_
 returns-in-Err-hand_on_lines_before-clause-reads g c = no_read {T = Unit {0}} _ _ (Err c.in-Err-hand_on_lines_before.fault) c.in-Err-hand_on_lines_before.ensures.no_read refl
 
 pub returns-in-Err-hand_on_lines_before-clause-writes : goal.returns-in-Err-hand_on_lines_before-clause-writes
-returns-in-Err-hand_on_lines_before-clause-writes g c = λ sinks underlay_sink.
-    writes_behind {T = Unit {0}} sinks underlay_sink (g.W.Output.failures c.args.decisions.now) sinks underlay_sink (g.W.Output.failures c.put_line.new.decisions) sinks underlay_sink
-    (g.W.Output.failures c.hand_on_lines_before.new.decisions) (Err c.in-Err-hand_on_lines_before.fault) (c.in_default.ensures.writes sinks underlay_sink)
-    (c.in-Err-hand_on_lines_before.ensures.writes sinks underlay_sink)
+returns-in-Err-hand_on_lines_before-clause-writes g c =
+    lines_writes {T = Unit {0}} _ _ _ (Err c.in-Err-hand_on_lines_before.fault) (lines_alone _ _ c.in_default.ensures.writes) c.in-Err-hand_on_lines_before.ensures.writes
 
 pub returns-in-Err-hand_on_lines_before-clause-lacked : goal.returns-in-Err-hand_on_lines_before-clause-lacked
 returns-in-Err-hand_on_lines_before-clause-lacked g c = none_waits {T = Unit {0}} _ (Err c.in-Err-hand_on_lines_before.fault) c.in-Err-hand_on_lines_before.ensures.no_read

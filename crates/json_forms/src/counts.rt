@@ -1,195 +1,39 @@
 //! Lines of what a run counted.
 ghost use Rattle.json_laws.specs.ReadBack.{AreWhole};
 
-use json_lines::Told::Word as At;
-use json_lines::Word::{Is, Number, Text};
-use json_lines::{End, Form, Member};
-
-const SENT: Form = Form {
-    words: &[Is("segment"), Number, Is("sent"), Number],
-    end: End::Here,
-    members: &[
-        Member("count", At(3)),
-        Member("line", At(2)),
-        Member("segment", At(1)),
-    ],
-};
-
-const DROPPED: Form = Form {
-    words: &[Is("segment"), Number, Is("dropped"), Number, Text, Number],
-    end: End::Here,
-    members: &[
-        Member("count", At(5)),
-        Member("line", At(2)),
-        Member("name", At(4)),
-        Member("reason", At(3)),
-        Member("segment", At(1)),
-    ],
-};
-
-const DROPPED_IN_NONE: Form = Form {
-    words: &[
-        Is("segment"),
-        Is("none"),
-        Is("dropped"),
-        Number,
-        Text,
-        Number,
-    ],
-    end: End::Here,
-    members: &[
-        Member("count", At(5)),
-        Member("line", At(2)),
-        Member("name", At(4)),
-        Member("reason", At(3)),
-    ],
-};
-
-const REFUSED: Form = Form {
-    words: &[Is("change"), Is("refused"), Number, Text, Number],
-    end: End::Here,
-    members: &[
-        Member("cause", At(2)),
-        Member("count", At(4)),
-        Member("line", At(1)),
-        Member("name", At(3)),
-    ],
-};
-
-/// A place, in or out.
-const PLACE: Form = Form {
-    words: &[Is("place"), Text, Text, Number, Number],
-    end: End::Here,
-    members: &[
-        Member("count", At(3)),
-        Member("direction", At(2)),
-        Member("line", At(0)),
-        Member("octets", At(4)),
-        Member("place", At(1)),
-    ],
-};
-
-const CHECKSUM: Form = Form {
-    words: &[Is("checksum"), Is("partial"), Number],
-    end: End::Here,
-    members: &[Member("count", At(2)), Member("line", At(0))],
-};
-
-const CUT: Form = Form {
-    words: &[Is("cut"), Text, Number],
-    end: End::Here,
-    members: &[
-        Member("line", At(0)),
-        Member("place", At(1)),
-        Member("records", At(2)),
-    ],
-};
-
-const OTHER_UNKNOWN: Form = Form {
-    words: &[Is("unknown"), Is("others"), Number],
-    end: End::Here,
-    members: &[Member("count", At(2)), Member("line", At(0))],
-};
-
-const UNKNOWN: Form = Form {
-    words: &[Is("unknown"), Text, Number, Is("from"), Text, Number],
-    end: End::Here,
-    members: &[
-        Member("address", At(4)),
-        Member("count", At(5)),
-        Member("kind", At(1)),
-        Member("line", At(0)),
-        Member("vni", At(2)),
-    ],
-};
-
-const REMOTE: Form = Form {
-    words: &[
-        Is("remote"),
-        Text,
-        Is("in"),
-        Number,
-        Number,
-        Is("out"),
-        Number,
-        Number,
-    ],
-    end: End::Here,
-    members: &[
-        Member("in", At(3)),
-        Member("in_octets", At(4)),
-        Member("line", At(0)),
-        Member("out", At(6)),
-        Member("out_octets", At(7)),
-        Member("remote", At(1)),
-    ],
-};
-
-const OTHER_TALKS: Form = Form {
-    words: &[
-        Is("talk"),
-        Is("others"),
-        Number,
-        Number,
-        Is("first"),
-        Text,
-        Is("last"),
-        Text,
-    ],
-    end: End::Here,
-    members: &[
-        Member("count", At(2)),
-        Member("first", At(5)),
-        Member("last", At(7)),
-        Member("line", At(0)),
-        Member("octets", At(3)),
-    ],
-};
-
-const TALK: Form = Form {
-    words: &[
-        Is("talk"),
-        Number,
-        Text,
-        Text,
-        Is(">"),
-        Text,
-        Text,
-        Number,
-        Number,
-        Is("first"),
-        Text,
-        Is("last"),
-        Text,
-    ],
-    end: End::Here,
-    members: &[
-        Member("count", At(7)),
-        Member("destination", At(5)),
-        Member("first", At(10)),
-        Member("from", At(3)),
-        Member("last", At(12)),
-        Member("line", At(0)),
-        Member("octets", At(8)),
-        Member("segment", At(1)),
-        Member("source", At(2)),
-        Member("to", At(6)),
-    ],
-};
+use json_lines::{Form, form};
 
 static COUNTS: [Form; 12] = [
-    SENT,
-    DROPPED,
-    DROPPED_IN_NONE,
-    REFUSED,
-    PLACE,
-    CHECKSUM,
-    CUT,
-    OTHER_UNKNOWN,
-    UNKNOWN,
-    REMOTE,
-    OTHER_TALKS,
-    TALK,
+    form!(["segment", Number, "sent", Number] => { "count": [3], "line": [2], "segment": [1] }),
+    form!(["segment", Number, "dropped", Number, Text, Number] => {
+        "count": [5], "line": [2], "name": [4], "reason": [3], "segment": [1]
+    }),
+    form!(["segment", "none", "dropped", Number, Text, Number] => {
+        "count": [5], "line": [2], "name": [4], "reason": [3]
+    }),
+    form!(["change", "refused", Number, Text, Number] => {
+        "cause": [2], "count": [4], "line": [1], "name": [3]
+    }),
+    // A place, in or out.
+    form!(["place", Text, Text, Number, Number] => {
+        "count": [3], "direction": [2], "line": [0], "octets": [4], "place": [1]
+    }),
+    form!(["checksum", "partial", Number] => { "count": [2], "line": [0] }),
+    form!(["cut", Text, Number] => { "line": [0], "place": [1], "records": [2] }),
+    form!(["unknown", "others", Number] => { "count": [2], "line": [0] }),
+    form!(["unknown", Text, Number, "from", Text, Number] => {
+        "address": [4], "count": [5], "kind": [1], "line": [0], "vni": [2]
+    }),
+    form!(["remote", Text, "in", Number, Number, "out", Number, Number] => {
+        "in": [3], "in_octets": [4], "line": [0], "out": [6], "out_octets": [7], "remote": [1]
+    }),
+    form!(["talk", "others", Number, Number, "first", Text, "last", Text] => {
+        "count": [2], "first": [5], "last": [7], "line": [0], "octets": [3]
+    }),
+    form!(["talk", Number, Text, Text, ">", Text, Text, Number, Number, "first", Text, "last", Text] => {
+        "count": [7], "destination": [5], "first": [10], "from": [3], "last": [12], "line": [0],
+        "octets": [8], "segment": [1], "source": [2], "to": [6]
+    }),
 ];
 
 /// The lines of a summary, and of who talks to whom.

@@ -1,273 +1,47 @@
 //! Lines of the layers of a packet.
 ghost use Rattle.json_laws.specs.ReadBack.{AreWhole};
 
-use json_lines::Told::Word as At;
-use json_lines::Word::{Is, Number, Text};
-use json_lines::{End, Form, Member};
-
-/// A layer of any kind without its values.
-const LAYER: Form = Form {
-    words: &[Is(""), Is(""), Text, Number, Number],
-    end: End::Here,
-    members: &[
-        Member("length", At(4)),
-        Member("part", At(2)),
-        Member("place", At(3)),
-    ],
-};
-
-const STOP_DEEP: Form = Form {
-    words: &[Is(""), Is(""), Is("stop"), Is("Deep")],
-    end: End::Here,
-    members: &[Member("name", At(3)), Member("part", At(2))],
-};
-
-const STOP: Form = Form {
-    words: &[Is(""), Is(""), Is("stop"), Number, Text],
-    end: End::Here,
-    members: &[
-        Member("name", At(4)),
-        Member("part", At(2)),
-        Member("reason", At(3)),
-    ],
-};
-
-const ETHER: Form = Form {
-    words: &[
-        Is(""),
-        Is(""),
-        Is("ether"),
-        Number,
-        Number,
-        Text,
-        Is(">"),
-        Text,
-    ],
-    end: End::Here,
-    members: &[
-        Member("destination", At(7)),
-        Member("length", At(4)),
-        Member("part", At(2)),
-        Member("place", At(3)),
-        Member("source", At(5)),
-    ],
-};
-
-const TAG: Form = Form {
-    words: &[
-        Is(""),
-        Is(""),
-        Is("tag"),
-        Number,
-        Number,
-        Text,
-        Is("vid"),
-        Number,
-        Is("pcp"),
-        Number,
-        Is("dei"),
-        Number,
-    ],
-    end: End::Here,
-    members: &[
-        Member("dei", At(11)),
-        Member("length", At(4)),
-        Member("part", At(2)),
-        Member("pcp", At(9)),
-        Member("place", At(3)),
-        Member("type", At(5)),
-        Member("vid", At(7)),
-    ],
-};
-
-const TYPE: Form = Form {
-    words: &[Is(""), Is(""), Is("type"), Number, Number, Text],
-    end: End::Here,
-    members: &[
-        Member("length", At(4)),
-        Member("part", At(2)),
-        Member("place", At(3)),
-        Member("type", At(5)),
-    ],
-};
-
-const IP4: Form = Form {
-    words: &[
-        Is(""),
-        Is(""),
-        Is("ip4"),
-        Number,
-        Number,
-        Text,
-        Is(">"),
-        Text,
-        Is("ttl"),
-        Number,
-        Is("length"),
-        Number,
-        Is("protocol"),
-        Number,
-    ],
-    end: End::Here,
-    members: &[
-        Member("destination", At(7)),
-        Member("ip_length", At(11)),
-        Member("length", At(4)),
-        Member("part", At(2)),
-        Member("place", At(3)),
-        Member("protocol", At(13)),
-        Member("source", At(5)),
-        Member("ttl", At(9)),
-    ],
-};
-
-const IP4_FRAGMENT: Form = Form {
-    words: &[
-        Is(""),
-        Is(""),
-        Is("ip4"),
-        Number,
-        Number,
-        Text,
-        Is(">"),
-        Text,
-        Is("ttl"),
-        Number,
-        Is("length"),
-        Number,
-        Is("protocol"),
-        Number,
-        Is("offset"),
-        Number,
-        Is("more"),
-        Number,
-    ],
-    end: End::Here,
-    members: &[
-        Member("destination", At(7)),
-        Member("ip_length", At(11)),
-        Member("length", At(4)),
-        Member("more", At(17)),
-        Member("offset", At(15)),
-        Member("part", At(2)),
-        Member("place", At(3)),
-        Member("protocol", At(13)),
-        Member("source", At(5)),
-        Member("ttl", At(9)),
-    ],
-};
-
-const IP6: Form = Form {
-    words: &[
-        Is(""),
-        Is(""),
-        Is("ip6"),
-        Number,
-        Number,
-        Text,
-        Is(">"),
-        Text,
-        Is("hop-limit"),
-        Number,
-        Is("length"),
-        Number,
-        Is("next-header"),
-        Number,
-    ],
-    end: End::Here,
-    members: &[
-        Member("destination", At(7)),
-        Member("hop_limit", At(9)),
-        Member("ip_length", At(11)),
-        Member("length", At(4)),
-        Member("next_header", At(13)),
-        Member("part", At(2)),
-        Member("place", At(3)),
-        Member("source", At(5)),
-    ],
-};
-
-const UDP: Form = Form {
-    words: &[
-        Is(""),
-        Is(""),
-        Is("udp"),
-        Number,
-        Number,
-        Number,
-        Is(">"),
-        Number,
-        Is("length"),
-        Number,
-        Is("checksum"),
-        Text,
-    ],
-    end: End::Here,
-    members: &[
-        Member("checksum", At(11)),
-        Member("destination_port", At(7)),
-        Member("length", At(4)),
-        Member("part", At(2)),
-        Member("place", At(3)),
-        Member("source_port", At(5)),
-        Member("udp_length", At(9)),
-    ],
-};
-
-const VXLAN: Form = Form {
-    words: &[
-        Is(""),
-        Is(""),
-        Is("vxlan"),
-        Number,
-        Number,
-        Is("vni"),
-        Number,
-    ],
-    end: End::Here,
-    members: &[
-        Member("length", At(4)),
-        Member("part", At(2)),
-        Member("place", At(3)),
-        Member("vni", At(6)),
-    ],
-};
-
-const GENEVE: Form = Form {
-    words: &[
-        Is(""),
-        Is(""),
-        Is("geneve"),
-        Number,
-        Number,
-        Is("vni"),
-        Number,
-        Is("options"),
-        Number,
-    ],
-    end: End::Here,
-    members: &[
-        Member("length", At(4)),
-        Member("options", At(8)),
-        Member("part", At(2)),
-        Member("place", At(3)),
-        Member("vni", At(6)),
-    ],
-};
+use json_lines::{Form, form};
 
 static LAYERS: [Form; 12] = [
-    LAYER,
-    STOP_DEEP,
-    STOP,
-    ETHER,
-    TAG,
-    TYPE,
-    IP4,
-    IP4_FRAGMENT,
-    IP6,
-    UDP,
-    VXLAN,
-    GENEVE,
+    // A layer of any kind without its values.
+    form!(["", "", Text, Number, Number] => { "length": [4], "part": [2], "place": [3] }),
+    form!(["", "", "stop", "Deep"] => { "name": [3], "part": [2] }),
+    form!(["", "", "stop", Number, Text] => { "name": [4], "part": [2], "reason": [3] }),
+    form!(["", "", "ether", Number, Number, Text, ">", Text] => {
+        "destination": [7], "length": [4], "part": [2], "place": [3], "source": [5]
+    }),
+    form!(["", "", "tag", Number, Number, Text, "vid", Number, "pcp", Number, "dei", Number] => {
+        "dei": [11], "length": [4], "part": [2], "pcp": [9], "place": [3], "type": [5], "vid": [7]
+    }),
+    form!(["", "", "type", Number, Number, Text] => {
+        "length": [4], "part": [2], "place": [3], "type": [5]
+    }),
+    form!(["", "", "ip4", Number, Number, Text, ">", Text, "ttl", Number, "length", Number, "protocol",
+        Number] => {
+        "destination": [7], "ip_length": [11], "length": [4], "part": [2], "place": [3], "protocol": [13],
+        "source": [5], "ttl": [9]
+    }),
+    form!(["", "", "ip4", Number, Number, Text, ">", Text, "ttl", Number, "length", Number, "protocol",
+        Number, "offset", Number, "more", Number] => {
+        "destination": [7], "ip_length": [11], "length": [4], "more": [17], "offset": [15], "part": [2],
+        "place": [3], "protocol": [13], "source": [5], "ttl": [9]
+    }),
+    form!(["", "", "ip6", Number, Number, Text, ">", Text, "hop-limit", Number, "length", Number,
+        "next-header", Number] => {
+        "destination": [7], "hop_limit": [9], "ip_length": [11], "length": [4], "next_header": [13],
+        "part": [2], "place": [3], "source": [5]
+    }),
+    form!(["", "", "udp", Number, Number, Number, ">", Number, "length", Number, "checksum", Text] => {
+        "checksum": [11], "destination_port": [7], "length": [4], "part": [2], "place": [3],
+        "source_port": [5], "udp_length": [9]
+    }),
+    form!(["", "", "vxlan", Number, Number, "vni", Number] => {
+        "length": [4], "part": [2], "place": [3], "vni": [6]
+    }),
+    form!(["", "", "geneve", Number, Number, "vni", Number, "options", Number] => {
+        "length": [4], "options": [8], "part": [2], "place": [3], "vni": [6]
+    }),
 ];
 
 /// The layers of a packet, below its decision line.

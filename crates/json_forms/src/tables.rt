@@ -1,44 +1,16 @@
 //! Lines of tables.
 ghost use Rattle.json_laws.specs.ReadBack.{AreWhole};
 
-use json_lines::Told::{Fixed, Word as At};
-use json_lines::Word::{Is, Number, Text};
-use json_lines::{End, Form, Member};
+use json_lines::{Form, form};
 
-const FIXED: Form = Form {
-    words: &[Is("segment"), Number, Text, Text, Is("fixed")],
-    end: End::Here,
-    members: &[
-        Member("address", At(2)),
-        Member("line", Fixed("fixed")),
-        Member("place", At(3)),
-        Member("segment", At(1)),
-    ],
-};
-
-const LEARNED: Form = Form {
-    words: &[
-        Is("segment"),
-        Number,
-        Text,
-        Text,
-        Is("seen"),
-        Text,
-        Is("age"),
-        Text,
-    ],
-    end: End::Here,
-    members: &[
-        Member("address", At(2)),
-        Member("age", At(7)),
-        Member("line", Fixed("learned")),
-        Member("moment", At(5)),
-        Member("place", At(3)),
-        Member("segment", At(1)),
-    ],
-};
-
-static TABLES: [Form; 2] = [FIXED, LEARNED];
+static TABLES: [Form; 2] = [
+    form!(["segment", Number, Text, Text, "fixed"] => {
+        "address": [2], "line": "fixed", "place": [3], "segment": [1]
+    }),
+    form!(["segment", Number, Text, Text, "seen", Text, "age", Text] => {
+        "address": [2], "age": [7], "line": "learned", "moment": [5], "place": [3], "segment": [1]
+    }),
+];
 
 /// The entries of tables.
 #[tactic(auto, using(json_laws::proofs::Whole::whole_forms))]

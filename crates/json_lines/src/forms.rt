@@ -55,3 +55,28 @@ pub struct Form {
     pub end: End,
     pub members: &'static [Member],
 }
+
+/// Writes a [`Form`] as the value of a constant: its words in order, each with the text that it is or with its [`Word`]; behind a
+/// `;` the [`End`], where it isn't `Here`; and the members, each with `[PLACE]` for the word of this place, from 0, with the text
+/// that is told whatever the line is, or with `Outcomes` or `Rest`.
+///
+/// `form!(["at", Text, NumberBefore(b':'); Rest] => { "kind": "remark", "line": [2], "place": [1], "remark": Rest })`
+#[macro_export]
+macro_rules! form {
+    ([$($word:tt $(($mark:literal))?),*] => {$($key:literal: $told:tt),*}) => {
+        $crate::form!([$($word $(($mark))?),*; Here] => {$($key: $told),*})
+    };
+    ([$($word:tt $(($mark:literal))?),*; $end:ident] => {$($key:literal: $told:tt),*}) => {
+        $crate::Form {
+            words: &[$($crate::form!(@word $word $(($mark))?)),*],
+            end: $crate::End::$end,
+            members: &[$($crate::Member($key, $crate::form!(@told $told))),*],
+        }
+    };
+    (@word $text:literal) => { $crate::Word::Is($text) };
+    (@word $kind:ident) => { $crate::Word::$kind };
+    (@word $kind:ident ($mark:literal)) => { $crate::Word::$kind($mark) };
+    (@told [$place:literal]) => { $crate::Told::Word($place) };
+    (@told $text:literal) => { $crate::Told::Fixed($text) };
+    (@told $kind:ident) => { $crate::Told::$kind };
+}

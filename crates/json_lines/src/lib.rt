@@ -1,7 +1,7 @@
 //! Lines of words told as JSON objects, one object for each line.
 //!
-//! Use first: a table of [`Form`]s says how each kind of line reads and which members its object has; [`put_object`] tells one
-//! line, and [`objects_of`] a whole text.
+//! Use first: a table of [`Form`]s, each written with [`form!`], says how each kind of line reads and which members its object
+//! has; [`put_object`] tells one line, and [`objects_of`] a whole text.
 //!
 //! Specs to read, in order: `specs/Outcomes`, `specs/Forms`, `specs/Objects`, `specs/Texts`.
 //!

@@ -39,6 +39,10 @@ use Rattle.change_story.specs.declared.seen.Seen.TheVariants as seen
 
 -- ---- one check: why it refuses, whether it does, and what it saw
 
+-- one that refuses for this reason where it fails, and what it saw
+abbrev pub check_of : ChangeFault → Bool → Seen → Check
+check_of fault fails saw = record { fault = fault; fails = fails; saw = saw }
+
 -- there is a segment of this VID
 abbrev pub segment_check : ℕ → Bool → Check
 segment_check vid there = record { fault = NoSegment; fails = not there; saw = seen.Segment vid there }
@@ -220,11 +224,7 @@ found B (PortDown port) = of_port B.settings port (seen.Up port (is_up B.setting
 found B (Flush vid) = option_map (entries_in (B.tables vid)) (segment_in B.settings vid)
 found B (RemoveSegment vid) = option_map (entries_in (B.tables vid)) (segment_in B.settings vid)
 found B (SetLimit vid limit) = option_map (entries_in (B.tables vid)) (segment_in B.settings vid)
-found B (AddFlood vid addr tunnel) = None
-found B (RemoveFlood vid addr tunnel) = None
-found B (Fix vid mac target) = None
-found B (Unfix vid mac) = None
-found B (AddSegment new) = None
+found B c = None
 
 -- the same, unless a check refuses it
 abbrev pub found_unless : Option ChangeFault → State → Change → List Seen
@@ -236,15 +236,4 @@ found_unless None B c = option_to_list (found B c)
 -- VNIs have 24 bits: in code the type of VNIs has no others, so no check asks it of a segment that comes
 abbrev pub AreVnis : Change → Type 0
 AreVnis (AddSegment new) = are_vnis new.tunnels ≡ true
-AreVnis (AddFlood vid addr tunnel) = Unit {0}
-AreVnis (RemoveFlood vid addr tunnel) = Unit {0}
-AreVnis (Fix vid mac target) = Unit {0}
-AreVnis (Unfix vid mac) = Unit {0}
-AreVnis (SetAgeing vid seconds) = Unit {0}
-AreVnis (SetLearning vid on) = Unit {0}
-AreVnis (SetMember vid port egress) = Unit {0}
-AreVnis (PortUp port) = Unit {0}
-AreVnis (PortDown port) = Unit {0}
-AreVnis (Flush vid) = Unit {0}
-AreVnis (RemoveSegment vid) = Unit {0}
-AreVnis (SetLimit vid limit) = Unit {0}
+AreVnis c = Unit {0}

@@ -26,6 +26,15 @@ pub struct Check {
     pub saw: Seen,
 }
 
+impl Check {
+    /// A check that refuses for `fault` where it `fails`, and what it saw.
+    fn new(fault: ChangeFault, fails: bool, saw: Seen) -> Check
+        ensures { result ≡ checks.check_of fault fails saw }
+    {
+        Check { fault, fails, saw }
+    }
+}
+
 /// Puts a check behind the others.
 pub(crate) fn put(checks: &mut Vec<Check>, check: Check) -> Result<(), AllocError>
     ensures { OnOk result (checks.new.items ≡ checks.old.items ++ check ∷ []) }
@@ -45,50 +54,50 @@ pub(crate) fn put_all(checks: &mut Vec<Check>, more: &[Check]) -> Result<(), All
 pub(crate) fn segment_check(vid: Vid, there: bool) -> Check
     ensures { result ≡ checks.segment_check vid there }
 {
-    Check {
-        fault: ChangeFault::NoSegment,
-        fails: !there,
-        saw: Seen::Segment {
+    Check::new(
+        ChangeFault::NoSegment,
+        !there,
+        Seen::Segment {
             vid: vid.get(),
             there,
         },
-    }
+    )
 }
 
 /// No segment has this VID.
 pub(crate) fn vid_check(vid: Vid, there: bool) -> Check
     ensures { result ≡ checks.vid_check vid there }
 {
-    Check {
-        fault: ChangeFault::SegmentThere,
-        fails: there,
-        saw: Seen::Segment {
+    Check::new(
+        ChangeFault::SegmentThere,
+        there,
+        Seen::Segment {
             vid: vid.get(),
             there,
         },
-    }
+    )
 }
 
 /// There is a port of this number, among so many.
 pub(crate) fn port_check(ports: u8, port: u8) -> Check
     ensures { result ≡ checks.port_check ports port }
 {
-    Check {
-        fault: ChangeFault::NoPort,
-        fails: !(1 <= port && port <= ports),
-        saw: Seen::Port { port, ports },
-    }
+    Check::new(
+        ChangeFault::NoPort,
+        !(1 <= port && port <= ports),
+        Seen::Port { port, ports },
+    )
 }
 
 /// The segment has the tunnel that is named, or has a first one where none is.
 pub(crate) fn tunnel_check(named: Option<Tunnel>, found: Option<Tunnel>) -> Check
     ensures { result ≡ checks.tunnel_check named found }
 {
-    Check {
-        fault: ChangeFault::NoTunnel,
-        fails: found.is_none(),
-        saw: Seen::Tunnel { named, found },
-    }
+    Check::new(
+        ChangeFault::NoTunnel,
+        found.is_none(),
+        Seen::Tunnel { named, found },
+    )
 }
 
 /// Somebody can have this address.
@@ -96,11 +105,7 @@ pub(crate) fn usable_check(addr: Addr) -> Check
     ensures { result ≡ checks.usable_check addr }
 {
     let usable = addr.is_usable();
-    Check {
-        fault: ChangeFault::OutOfRange,
-        fails: !usable,
-        saw: Seen::Usable { usable },
-    }
+    Check::new(ChangeFault::OutOfRange, !usable, Seen::Usable { usable })
 }
 
 /// It is no group's.
@@ -108,11 +113,7 @@ pub(crate) fn group_check(addr: Addr) -> Check
     ensures { result ≡ checks.group_check addr }
 {
     let group = addr.is_group();
-    Check {
-        fault: ChangeFault::GroupAddress,
-        fails: group,
-        saw: Seen::AddrGroup { group },
-    }
+    Check::new(ChangeFault::GroupAddress, group, Seen::AddrGroup { group })
 }
 
 /// The endpoint has an own address of its family.
@@ -120,11 +121,7 @@ pub(crate) fn family_check(own: &Own, addr: Addr) -> Check
     ensures { result ≡ checks.family_check own.now addr }
 {
     let there = own.has_family(addr);
-    Check {
-        fault: ChangeFault::NoFamily,
-        fails: !there,
-        saw: Seen::Family { there },
-    }
+    Check::new(ChangeFault::NoFamily, !there, Seen::Family { there })
 }
 
 /// It isn't the endpoint's own.
@@ -132,33 +129,21 @@ pub(crate) fn own_check(own: &Own, addr: Addr) -> Check
     ensures { result ≡ checks.own_check own.now addr }
 {
     let own = own.is_own(addr);
-    Check {
-        fault: ChangeFault::OwnAddress,
-        fails: own,
-        saw: Seen::Own { own },
-    }
+    Check::new(ChangeFault::OwnAddress, own, Seen::Own { own })
 }
 
 /// It isn't on the flood list yet.
 pub(crate) fn absent_check(listed: bool) -> Check
     ensures { result ≡ checks.absent_check listed }
 {
-    Check {
-        fault: ChangeFault::AlreadyThere,
-        fails: listed,
-        saw: Seen::Listed { listed },
-    }
+    Check::new(ChangeFault::AlreadyThere, listed, Seen::Listed { listed })
 }
 
 /// It is on the flood list.
 pub(crate) fn listed_check(listed: bool) -> Check
     ensures { result ≡ checks.listed_check listed }
 {
-    Check {
-        fault: ChangeFault::NotThere,
-        fails: !listed,
-        saw: Seen::Listed { listed },
-    }
+    Check::new(ChangeFault::NotThere, !listed, Seen::Listed { listed })
 }
 
 /// The flood list has room: it has fewer remotes than its limit says, and than 512.
@@ -166,11 +151,11 @@ pub(crate) fn flood_check(most: u16, remotes: usize) -> Check
     ensures { result ≡ checks.flood_check most remotes }
 {
     let most = most.min(MOST_REMOTES);
-    Check {
-        fault: ChangeFault::FloodFull,
-        fails: remotes >= usize::from(most),
-        saw: Seen::FloodRoom { remotes, most },
-    }
+    Check::new(
+        ChangeFault::FloodFull,
+        remotes >= usize::from(most),
+        Seen::FloodRoom { remotes, most },
+    )
 }
 
 /// A MAC address is no group's.
@@ -178,26 +163,22 @@ pub(crate) fn mac_check(mac: Mac) -> Check
     ensures { result ≡ checks.mac_check mac }
 {
     let group = mac.is_group();
-    Check {
-        fault: ChangeFault::GroupAddress,
-        fails: group,
-        saw: Seen::MacGroup { group },
-    }
+    Check::new(ChangeFault::GroupAddress, group, Seen::MacGroup { group })
 }
 
 /// A table with this limit and so many entries has room for a fixed entry of an address for which this stands.
 pub(crate) fn room_check(limit: u32, stood: Option<Entry>, entries: usize) -> Check
     ensures { (mac : _) (m : Table) → get m mac ≡ stood → len m ≡ entries → result ≡ checks.room_check limit mac m }
 {
-    Check {
-        fault: ChangeFault::TableFull,
-        fails: stood.is_none() && entries >= limit as usize,
-        saw: Seen::Room {
+    Check::new(
+        ChangeFault::TableFull,
+        stood.is_none() && entries >= limit as usize,
+        Seen::Room {
             stood,
             entries,
             limit,
         },
-    }
+    )
 }
 
 /// An address for which this stands has a fixed entry.
@@ -208,64 +189,56 @@ pub(crate) fn fixed_check(stood: Option<Entry>) -> Check
         Some(entry) => entry.is_fixed(),
         None => false,
     };
-    Check {
-        fault: ChangeFault::NotThere,
-        fails: !fixed,
-        saw: Seen::Stood { stood },
-    }
+    Check::new(ChangeFault::NotThere, !fixed, Seen::Stood { stood })
 }
 
 /// Ageings have 10 to 1,000,000 seconds.
 pub(crate) fn ageing_check(seconds: u32) -> Check
     ensures { result ≡ checks.ageing_check seconds }
 {
-    Check {
-        fault: ChangeFault::OutOfRange,
-        fails: !is_ageing(seconds),
-        saw: Seen::Ageing { seconds },
-    }
+    Check::new(
+        ChangeFault::OutOfRange,
+        !is_ageing(seconds),
+        Seen::Ageing { seconds },
+    )
 }
 
 /// Limits are 1 to the most entries of a segment.
 pub(crate) fn limit_check(most: u32, limit: u32) -> Check
     ensures { result ≡ checks.limit_check most limit }
 {
-    Check {
-        fault: ChangeFault::OutOfRange,
-        fails: !is_limit(most, limit),
-        saw: Seen::Limit { limit, most },
-    }
+    Check::new(
+        ChangeFault::OutOfRange,
+        !is_limit(most, limit),
+        Seen::Limit { limit, most },
+    )
 }
 
 /// No segment has a tunnel of the kind and VNI of one of the new one's.
 pub(crate) fn vnis_check(free: bool) -> Check
     ensures { result ≡ checks.vnis_check free }
 {
-    Check {
-        fault: ChangeFault::SegmentThere,
-        fails: !free,
-        saw: Seen::Vnis { free },
-    }
+    Check::new(ChangeFault::SegmentThere, !free, Seen::Vnis { free })
 }
 
 /// There are fewer segments than there may be.
 pub(crate) fn count_check(segments: u32, most: u16) -> Check
     ensures { result ≡ checks.count_check segments most }
 {
-    Check {
-        fault: ChangeFault::SegmentsFull,
-        fails: !(segments < u32::from(most)),
-        saw: Seen::Segments { segments, most },
-    }
+    Check::new(
+        ChangeFault::SegmentsFull,
+        !(segments < u32::from(most)),
+        Seen::Segments { segments, most },
+    )
 }
 
 /// A limit is no more than what is left of the pool for it.
 pub(crate) fn pool_check(limit: u32, room: u64) -> Check
     ensures { result ≡ checks.pool_check (nat_lt room limit) room }
 {
-    Check {
-        fault: ChangeFault::PoolFull,
-        fails: u64::from(limit) > room,
-        saw: Seen::Pool { room },
-    }
+    Check::new(
+        ChangeFault::PoolFull,
+        u64::from(limit) > room,
+        Seen::Pool { room },
+    )
 }

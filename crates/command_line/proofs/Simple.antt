@@ -15,21 +15,17 @@ use Rattle.command_line.specs.Meaning.{Explains, ExplainsWords, LacksValue, Mean
 use Rattle.command_line.specs.declared.line.LineFault.{LineFault}
 use Rattle.command_line.specs.declared.line.LineFault.TheVariants as fault
 
-pub tep-simple : is_simple tep_app ≡ true
-unfolding clap_on_literals
-tep-simple = refl
+-- a command that is simple, and has no fault of its own
+abbrev IsFree : App → Type 0
+IsFree a = (is_simple a ≡ true) × (is_simple_and_free a ≡ true)
 
-pub tep-free : is_simple_and_free tep_app ≡ true
+tep-free : IsFree tep_app
 unfolding clap_on_literals
-tep-free = refl
+tep-free = (refl, refl)
 
-pub telling-simple : is_simple telling_app ≡ true
+telling-free : IsFree telling_app
 unfolding clap_on_literals
-telling-simple = refl
-
-pub telling-free : is_simple_and_free telling_app ≡ true
-unfolding clap_on_literals
-telling-free = refl
+telling-free = (refl, refl)
 
 pub not_true : (b : Bool) → (b ≡ true → ⊥) → b ≡ false
 not_true true h = absurd (h refl)
@@ -38,7 +34,7 @@ not_true false h = refl
 -- ---- the program
 
 pub taken_by : (a : App) (words : List (List ℕ)) → a ≡ tep_app → (is_simple_and_free a ≡ true → fault_of a words ≡ []) → fault_of tep_app words ≡ []
-taken_by a words is none = subst (λ (x : App). is_simple_and_free x ≡ true → fault_of x words ≡ []) is none tep-free
+taken_by a words is none = subst (λ (x : App). is_simple_and_free x ≡ true → fault_of x words ≡ []) is none tep-free.1
 
 pub refused_by : (a : App) (words : List (List ℕ)) (e : Error) → a ≡ tep_app
     → (takes a words ≡ true → kind_of e ≡ OutOfMemory)
@@ -50,7 +46,7 @@ refused_by a words e is passes kinds = go (takes tep_app words) refl
     taken = subst (λ (x : App). takes x words ≡ true → kind_of e ≡ OutOfMemory) is passes
 
     kind : HasKind (fault_of tep_app words) e
-    kind = subst (λ (x : App). is_simple_and_free x ≡ true → HasKind (fault_of x words) e) is kinds tep-free
+    kind = subst (λ (x : App). is_simple_and_free x ≡ true → HasKind (fault_of x words) e) is kinds tep-free.1
 
     go : (b : Bool) → takes tep_app words ≡ b → RefusesAsWhole words e
     go true h = inl (taken h)
@@ -59,7 +55,7 @@ refused_by a words e is passes kinds = go (takes tep_app words) refl
 pub meant_by : (a : App) (words : List (List ℕ)) (m : ArgMatches) (meaning : Option Meaning) → a ≡ tep_app → HasMatchesOf a words m
     → (is_simple_and_free a ≡ true → fault_of a words ≡ []) → line_meant (subcommand_rows_of m) ≡ meaning → words_meant words ≡ meaning
 meant_by a words m meaning is has none meant =
-    let both = subst (λ (x : App). HasMatchesOf x words m) is has tep-simple in
+    let both = subst (λ (x : App). HasMatchesOf x words m) is has tep-free.0 in
     let rows : subcommand_rows_of m ≡ subcommand_of tep_app words = both.1 in
     cond-true _ _ _ (ap are_none (taken_by a words is none)) ∙ ap line_meant (sym rows) ∙ meant
 
@@ -84,16 +80,16 @@ some_fault k (x ∷ xs) h = refl
 pub telling_by : (a : App) (words : List (List ℕ)) (m : ArgMatches) → a ≡ telling_app → HasMatchesOf a words m
     → (is_simple_and_free a ≡ true → fault_of a words ≡ []) → option_and_then telling (line_meant (subcommand_rows_of m)) ≡ telling_meant words
 telling_by a words m is has none =
-    let both = subst (λ (x : App). HasMatchesOf x words m) is has telling-simple in
+    let both = subst (λ (x : App). HasMatchesOf x words m) is has telling-free.0 in
     let rows : subcommand_rows_of m ≡ subcommand_of telling_app words = both.1 in
-    let taken : fault_of telling_app words ≡ [] = subst (λ (x : App). is_simple_and_free x ≡ true → fault_of x words ≡ []) is none telling-free in
+    let taken : fault_of telling_app words ≡ [] = subst (λ (x : App). is_simple_and_free x ≡ true → fault_of x words ≡ []) is none telling-free.1 in
     ap (λ r. option_and_then telling (line_meant r)) rows ∙ sym (cond-true _ _ _ (ap are_none taken))
 
 pub not_telling_by : (a : App) (words : List (List ℕ)) (e : Error) → a ≡ telling_app
     → (is_simple_and_free a ≡ true → HasKind (fault_of a words) e) → (kind_of e ≡ OutOfMemory → ⊥) → telling_meant words ≡ None
 not_telling_by a words e is kinds other =
     let kind : HasKind (fault_of telling_app words) e =
-    subst (λ (x : App). is_simple_and_free x ≡ true → HasKind (fault_of x words) e) is kinds telling-free in
+    subst (λ (x : App). is_simple_and_free x ≡ true → HasKind (fault_of x words) e) is kinds telling-free.1 in
     cond-false _ _ _ (some_fault (kind_of e) (fault_of telling_app words) (elim kind [ inl h ↦ absurd (other h) | inr h ↦ h ]))
 
 -- where the program refuses the words, they mean what they mean of such a run

@@ -96,18 +96,18 @@ name_of subcommands.Split = codes "split"
 name_of subcommands.Compare = codes "compare"
 name_of subcommands.Report = codes "report"
 
+-- what a run takes, with an argument for its folder
+abbrev pub run_with : Argument → List Argument
+run_with out =
+    arguments.Settings ∷ arguments.Changes ∷ arguments.Underlay
+    ∷ out ∷ arguments.Ports ∷ arguments.Both ∷ arguments.Within ∷ arguments.Tables ∷ arguments.TablesAt
+    ∷ arguments.Why ∷ arguments.Summary ∷ arguments.Talkers ∷ arguments.RunJson ∷ arguments.Segments ∷ arguments.Digests
+    ∷ arguments.Quiet ∷ []
+
 -- what it takes
 abbrev pub arguments_of : Subcommand → List Argument
-arguments_of subcommands.Run =
-    arguments.Settings ∷ arguments.Changes ∷ arguments.Underlay
-    ∷ arguments.RunOut ∷ arguments.Ports ∷ arguments.Both ∷ arguments.Within ∷ arguments.Tables ∷ arguments.TablesAt
-    ∷ arguments.Why ∷ arguments.Summary ∷ arguments.Talkers ∷ arguments.RunJson ∷ arguments.Segments ∷ arguments.Digests
-    ∷ arguments.Quiet ∷ []
-arguments_of subcommands.TellingRun =
-    arguments.Settings ∷ arguments.Changes ∷ arguments.Underlay
-    ∷ arguments.OptionalOut ∷ arguments.Ports ∷ arguments.Both ∷ arguments.Within ∷ arguments.Tables ∷ arguments.TablesAt
-    ∷ arguments.Why ∷ arguments.Summary ∷ arguments.Talkers ∷ arguments.RunJson ∷ arguments.Segments ∷ arguments.Digests
-    ∷ arguments.Quiet ∷ []
+arguments_of subcommands.Run = run_with arguments.RunOut
+arguments_of subcommands.TellingRun = run_with arguments.OptionalOut
 arguments_of subcommands.Check =
     arguments.Settings ∷ arguments.Changes ∷ arguments.SeenUnderlay ∷ arguments.SeenPorts
     ∷ arguments.Json ∷ []

@@ -1,6 +1,6 @@
 -- What a command line means: the program's own words, after clap's definition of simple commands. It states no standard.
 use Rattle.std.specs.Prelude.{◌≡◌, ◌⊎◌, ◌≤◌, ℕ, ◌&&◌, ◌||◌, not, is_some, nat_le, ◌^◌, ◌-◌, Bool, List}
-use Rattle.std.specs.Prelude.{Option, Some, None, IsSome, IsSomeAnd, codes, count_by, option_and_then}
+use Rattle.std.specs.Prelude.{Option, Some, None, IsSome, IsSomeAnd, Result, IfOk, IfErr, codes, count_by, option_and_then}
 use Rattle.std.specs.Prelude.{option_map, unwrap_or, if◌then◌else◌, ⊤, true, false, [], ◌∷◌}
 use Rattle.std.specs.Str.{bytes_eq}
 use Rattle.std.specs.Str.Parse.{digits_value, without_leading_plus}
@@ -24,10 +24,11 @@ use Rattle.command_line.specs.declared.line.LineFault.TheVariants as fault
 -- the changes, the underlay, the ports, and whether it is told as JSON; of `explain` the settings, the depth, whether values are
 -- told, the capture, and the same; of `migrate` the settings; of `digest` the underlay and the ports; of `merge` the folder, those
 -- of the parts, whether the tables are told, whether the counts are, and whether they are told as JSON; of `split` the folder and
--- the capture; of `report` the folder that a run wrote into and the page; of `compare` what was sent, what was received, how much later a record may be, and how far the clock of what was
--- received is ahead, whether what is alone is listed, what a table is by, what is left aside, and whether it is told as JSON; of the
--- other `compare` the folder that a run wrote into, what was captured at the underlay and at the ports, the same two, the settings
--- if there are some, whether all octets are compared at the underlay, and the last four
+-- the capture; of `report` the folder that a run wrote into and the page; of `compare` what was sent, what was received, how much
+-- later a record may be, how far the clock of what was received is ahead, whether what is alone is listed, what a table is by,
+-- what is left aside, and whether it is told as JSON; of the other `compare` the folder that a run wrote into, what was captured
+-- at the underlay and at the ports, the same two, the settings if there are some, whether all octets are compared at the underlay,
+-- and the last four
 pub data Meaning : Type 0 where
   sample : Meaning
   run : Text → Option Text → Text → Option Text → List Text → Bool
@@ -314,7 +315,8 @@ are_no_captures (name ∷ names) = bytes_eq name (codes "-") && are_no_captures 
 
 -- what a run wrote is compared with no capture at all
 abbrev pub compares_nothing : Meaning → Bool
-compares_nothing (compare_worked worked underlay ports within shift settings strict lists by ignores json) = are_no_captures (underlay ∷ ports)
+compares_nothing (compare_worked worked underlay ports within shift settings strict lists by ignores json) =
+    are_no_captures (underlay ∷ ports)
 compares_nothing _ = false
 
 -- there is something to compare where captures are compared
@@ -368,3 +370,10 @@ LacksValue meant fault.Ignored = meant ≡ None
 LacksValue meant fault.InputTwice = ⊥
 LacksValue meant fault.NoSegments = ⊥
 LacksValue meant fault.NoCapture = ⊥
+
+-- what the part behind the parse answers, where the matches mean this: a line that means it, whose depth is 1 to 4, or what is
+-- lacking
+pub record Answers (meant : Option Meaning) (result : Result Line LineFault) : Type 0 where
+  pub ok : IfOk result (λ line. meant ≡ Some (meaning_of line))
+  pub depth : IfOk result HasDepth
+  pub fault : IfErr result (LacksValue meant)

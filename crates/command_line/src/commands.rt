@@ -138,45 +138,35 @@ const SUBCOMMANDS: [Subcommand; 9] = [
     Subcommand::Report,
 ];
 
+/// What `run` takes, with `$out` as the argument for its folder.
+macro_rules! run_with {
+    ($out:expr) => {
+        [
+            Argument::Settings,
+            Argument::Changes,
+            Argument::Underlay,
+            $out,
+            Argument::Ports,
+            Argument::Both,
+            Argument::Within,
+            Argument::Tables,
+            Argument::TablesAt,
+            Argument::Why,
+            Argument::Summary,
+            Argument::Talkers,
+            Argument::RunJson,
+            Argument::Segments,
+            Argument::Digests,
+            Argument::Quiet,
+        ]
+    };
+}
+
 /// What `run` takes.
-const RUN: [Argument; 16] = [
-    Argument::Settings,
-    Argument::Changes,
-    Argument::Underlay,
-    Argument::RunOut,
-    Argument::Ports,
-    Argument::Both,
-    Argument::Within,
-    Argument::Tables,
-    Argument::TablesAt,
-    Argument::Why,
-    Argument::Summary,
-    Argument::Talkers,
-    Argument::RunJson,
-    Argument::Segments,
-    Argument::Digests,
-    Argument::Quiet,
-];
+const RUN: [Argument; 16] = run_with!(Argument::RunOut);
 
 /// What `run` takes where its folder may be left out.
-const TELLING_RUN: [Argument; 16] = [
-    Argument::Settings,
-    Argument::Changes,
-    Argument::Underlay,
-    Argument::OptionalOut,
-    Argument::Ports,
-    Argument::Both,
-    Argument::Within,
-    Argument::Tables,
-    Argument::TablesAt,
-    Argument::Why,
-    Argument::Summary,
-    Argument::Talkers,
-    Argument::RunJson,
-    Argument::Segments,
-    Argument::Digests,
-    Argument::Quiet,
-];
+const TELLING_RUN: [Argument; 16] = run_with!(Argument::OptionalOut);
 
 /// What `check` takes.
 const CHECK: [Argument; 5] = [

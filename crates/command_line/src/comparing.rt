@@ -1,7 +1,7 @@
 //! What `compare` is asked to do with its captures.
-ghost use Rattle.std.specs.Prelude.{◌≡◌, IfErr, IfOk, None, Some, option_map};
+ghost use Rattle.std.specs.Prelude.{None, Some, option_map};
 ghost use Rattle.clap.specs.Walk.{texts};
-ghost use Rattle.command_line.specs.Meaning.{HasDepth, LacksValue, captures_meant, meaning_of, pair_meant};
+ghost use Rattle.command_line.specs.Meaning.{Answers, captures_meant, pair_meant};
 ghost use Rattle.command_line.specs.Meaning.{plain_pair_meant};
 ghost use Rattle.command_line.specs.declared.line.LineFault.TheVariants.{OutOfMemory};
 
@@ -39,17 +39,11 @@ pub(crate) fn comparison_line<'a>(
     asked: Comparing<'a>,
     captures: &[&'a str],
 ) -> Result<Line<'a>, LineFault>
-    ensures ok { IfOk result (λ line. captures_meant (option_map (λ t. t.now) asked.entry.worked)
+    ensures { Answers (captures_meant (option_map (λ t. t.now) asked.entry.worked)
         (option_map (λ t. t.now) asked.entry.underlay) (texts captures.now)
         (option_map (λ t. t.now) asked.entry.within) (option_map (λ t. t.now) asked.entry.shift)
         (option_map (λ t. t.now) asked.entry.settings) asked.entry.strict asked.entry.lists
-        (option_map (λ t. t.now) asked.entry.by) asked.entry.ignores asked.entry.json ≡ Some (meaning_of line)) }
-    ensures depth { IfOk result HasDepth }
-    ensures fault { IfErr result (LacksValue
-        (captures_meant (option_map (λ t. t.now) asked.entry.worked) (option_map (λ t. t.now) asked.entry.underlay)
-        (texts captures.now) (option_map (λ t. t.now) asked.entry.within) (option_map (λ t. t.now) asked.entry.shift)
-        (option_map (λ t. t.now) asked.entry.settings) asked.entry.strict asked.entry.lists
-        (option_map (λ t. t.now) asked.entry.by) asked.entry.ignores asked.entry.json)) }
+        (option_map (λ t. t.now) asked.entry.by) asked.entry.ignores asked.entry.json) result }
 {
     match (asked.worked, asked.underlay) {
         (None, None) => plain_pair(asked, captures),
@@ -75,14 +69,9 @@ pub(crate) fn comparison_line<'a>(
 
 /// The line that asks for two captures to be compared, with no settings and not strictly.
 fn plain_pair<'a>(asked: Comparing<'a>, captures: &[&'a str]) -> Result<Line<'a>, LineFault>
-    ensures ok { IfOk result (λ line. plain_pair_meant (option_map (λ t. t.now) asked.entry.settings) asked.entry.strict
+    ensures { Answers (plain_pair_meant (option_map (λ t. t.now) asked.entry.settings) asked.entry.strict
         (texts captures.now) (option_map (λ t. t.now) asked.entry.within) (option_map (λ t. t.now) asked.entry.shift)
-        asked.entry.lists (option_map (λ t. t.now) asked.entry.by) asked.entry.ignores asked.entry.json ≡ Some (meaning_of line)) }
-    ensures depth { IfOk result HasDepth }
-    ensures fault { IfErr result (LacksValue
-        (plain_pair_meant (option_map (λ t. t.now) asked.entry.settings) asked.entry.strict (texts captures.now)
-        (option_map (λ t. t.now) asked.entry.within) (option_map (λ t. t.now) asked.entry.shift) asked.entry.lists
-        (option_map (λ t. t.now) asked.entry.by) asked.entry.ignores asked.entry.json)) }
+        asked.entry.lists (option_map (λ t. t.now) asked.entry.by) asked.entry.ignores asked.entry.json) result }
 {
     match (asked.settings, asked.strict) {
         (None, false) => pair(asked, captures),
@@ -92,12 +81,9 @@ fn plain_pair<'a>(asked: Comparing<'a>, captures: &[&'a str]) -> Result<Line<'a>
 
 /// The line that asks for two captures to be compared.
 fn pair<'a>(asked: Comparing<'a>, captures: &[&'a str]) -> Result<Line<'a>, LineFault>
-    ensures ok { IfOk result (λ line. pair_meant (texts captures.now) (option_map (λ t. t.now) asked.entry.within)
-        (option_map (λ t. t.now) asked.entry.shift) asked.entry.lists (option_map (λ t. t.now) asked.entry.by) asked.entry.ignores asked.entry.json
-        ≡ Some (meaning_of line)) }
-    ensures depth { IfOk result HasDepth }
-    ensures fault { IfErr result (LacksValue (pair_meant (texts captures.now) (option_map (λ t. t.now) asked.entry.within)
-        (option_map (λ t. t.now) asked.entry.shift) asked.entry.lists (option_map (λ t. t.now) asked.entry.by) asked.entry.ignores asked.entry.json)) }
+    ensures { Answers (pair_meant (texts captures.now) (option_map (λ t. t.now) asked.entry.within)
+        (option_map (λ t. t.now) asked.entry.shift) asked.entry.lists (option_map (λ t. t.now) asked.entry.by)
+        asked.entry.ignores asked.entry.json) result }
 {
     match captures {
         [sent, received] => Ok(Line::Compare {

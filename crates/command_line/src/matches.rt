@@ -1,9 +1,9 @@
 //! From `clap`'s matches to a line.
-ghost use Rattle.std.specs.Prelude.{◌≡◌, ◌≤◌, IfOk, IfErr, IfSome, Some, option_and_then, option_map};
+ghost use Rattle.std.specs.Prelude.{◌≡◌, ◌≤◌, IfOk, IfErr, IfSome, option_and_then, option_map};
 ghost use Rattle.clap.specs.Words.{all_of, first_of, found_of, rows_of, subcommand_rows_of};
 ghost use Rattle.clap.specs.Walk.{texts};
-ghost use Rattle.command_line.specs.Meaning.{HasDepth, LacksValue, check_meant, compare_meant, depth_in, digest_meant};
-ghost use Rattle.command_line.specs.Meaning.{explain_meant, ignores_in, is_set, line_meant, meaning_of, merge_meant};
+ghost use Rattle.command_line.specs.Meaning.{Answers, check_meant, compare_meant, depth_in, digest_meant};
+ghost use Rattle.command_line.specs.Meaning.{explain_meant, ignores_in, is_set, line_meant, merge_meant};
 ghost use Rattle.command_line.specs.Meaning.{migrate_meant, moment_in, report_meant, run_meant, small_depth, split_meant};
 ghost use Rattle.command_line.specs.declared.line.LineFault.TheVariants.{OutOfMemory};
 
@@ -14,9 +14,7 @@ use std::alloc::Global;
 
 /// The line of a whole parse.
 pub(crate) fn line_from<'a>(alloc: Global, matches: &ArgMatches<'a>) -> Result<Line<'a>, LineFault>
-    ensures ok { IfOk result (λ line. line_meant (subcommand_rows_of matches.now) ≡ Some (meaning_of line)) }
-    ensures depth { IfOk result HasDepth }
-    ensures fault { IfErr result (LacksValue (line_meant (subcommand_rows_of matches.now))) }
+    ensures { Answers (line_meant (subcommand_rows_of matches.now)) result }
 {
     let Some((name, inner)) = matches.subcommand() else {
         return Ok(Line::Sample);
@@ -106,9 +104,7 @@ fn moment(inner: &ArgMatches) -> Option<u64>
 
 /// The line that asks for a run.
 fn run_from<'a>(alloc: Global, inner: &ArgMatches<'a>) -> Result<Line<'a>, LineFault>
-    ensures ok { IfOk result (λ line. run_meant (rows_of (found_of inner.now)) ≡ Some (meaning_of line)) }
-    ensures depth { IfOk result HasDepth }
-    ensures fault { IfErr result (LacksValue (run_meant (rows_of (found_of inner.now)))) }
+    ensures { Answers (run_meant (rows_of (found_of inner.now))) result }
 {
     let settings = text(inner, "settings").ok_or(LineFault::NoValue)?;
     let changes = text(inner, "changes");
@@ -140,9 +136,7 @@ fn run_from<'a>(alloc: Global, inner: &ArgMatches<'a>) -> Result<Line<'a>, LineF
 
 /// The line that asks for a look at the texts, and at captures.
 fn check_from<'a>(alloc: Global, inner: &ArgMatches<'a>) -> Result<Line<'a>, LineFault>
-    ensures ok { IfOk result (λ line. check_meant (rows_of (found_of inner.now)) ≡ Some (meaning_of line)) }
-    ensures depth { IfOk result HasDepth }
-    ensures fault { IfErr result (LacksValue (check_meant (rows_of (found_of inner.now)))) }
+    ensures { Answers (check_meant (rows_of (found_of inner.now))) result }
 {
     let settings = text(inner, "settings").ok_or(LineFault::NoValue)?;
     let changes = text(inner, "changes");
@@ -160,9 +154,7 @@ fn check_from<'a>(alloc: Global, inner: &ArgMatches<'a>) -> Result<Line<'a>, Lin
 
 /// The line that asks for packets taken apart.
 fn explain_from<'a>(inner: &ArgMatches<'a>) -> Result<Line<'a>, LineFault>
-    ensures ok { IfOk result (λ line. explain_meant (rows_of (found_of inner.now)) ≡ Some (meaning_of line)) }
-    ensures depth { IfOk result HasDepth }
-    ensures fault { IfErr result (LacksValue (explain_meant (rows_of (found_of inner.now)))) }
+    ensures { Answers (explain_meant (rows_of (found_of inner.now))) result }
 {
     let settings = text(inner, "settings").ok_or(LineFault::NoValue)?;
     let capture = text(inner, "capture").ok_or(LineFault::NoValue)?;
@@ -178,9 +170,7 @@ fn explain_from<'a>(inner: &ArgMatches<'a>) -> Result<Line<'a>, LineFault>
 
 /// The line that asks for a settings text of version 2.
 fn migrate_from<'a>(inner: &ArgMatches<'a>) -> Result<Line<'a>, LineFault>
-    ensures ok { IfOk result (λ line. migrate_meant (rows_of (found_of inner.now)) ≡ Some (meaning_of line)) }
-    ensures depth { IfOk result HasDepth }
-    ensures fault { IfErr result (LacksValue (migrate_meant (rows_of (found_of inner.now)))) }
+    ensures { Answers (migrate_meant (rows_of (found_of inner.now))) result }
 {
     let settings = text(inner, "settings").ok_or(LineFault::NoValue)?;
     Ok(Line::Migrate { settings })
@@ -188,9 +178,7 @@ fn migrate_from<'a>(inner: &ArgMatches<'a>) -> Result<Line<'a>, LineFault>
 
 /// The line that asks for digests of captures.
 fn digest_from<'a>(alloc: Global, inner: &ArgMatches<'a>) -> Result<Line<'a>, LineFault>
-    ensures ok { IfOk result (λ line. digest_meant (rows_of (found_of inner.now)) ≡ Some (meaning_of line)) }
-    ensures depth { IfOk result HasDepth }
-    ensures fault { IfErr result (LacksValue (digest_meant (rows_of (found_of inner.now)))) }
+    ensures { Answers (digest_meant (rows_of (found_of inner.now))) result }
 {
     let underlay = text(inner, "underlay").ok_or(LineFault::NoValue)?;
     let given = values(inner, "ports").ok_or(LineFault::NoValue)?;
@@ -200,9 +188,7 @@ fn digest_from<'a>(alloc: Global, inner: &ArgMatches<'a>) -> Result<Line<'a>, Li
 
 /// The line that asks for parts made whole.
 fn merge_from<'a>(alloc: Global, inner: &ArgMatches<'a>) -> Result<Line<'a>, LineFault>
-    ensures ok { IfOk result (λ line. merge_meant (rows_of (found_of inner.now)) ≡ Some (meaning_of line)) }
-    ensures depth { IfOk result HasDepth }
-    ensures fault { IfErr result (LacksValue (merge_meant (rows_of (found_of inner.now)))) }
+    ensures { Answers (merge_meant (rows_of (found_of inner.now))) result }
 {
     let out = text(inner, "out").ok_or(LineFault::NoValue)?;
     let given = values(inner, "parts").ok_or(LineFault::NoValue)?;
@@ -220,9 +206,7 @@ fn merge_from<'a>(alloc: Global, inner: &ArgMatches<'a>) -> Result<Line<'a>, Lin
 
 /// The line that asks for a capture of each interface.
 fn split_from<'a>(inner: &ArgMatches<'a>) -> Result<Line<'a>, LineFault>
-    ensures ok { IfOk result (λ line. split_meant (rows_of (found_of inner.now)) ≡ Some (meaning_of line)) }
-    ensures depth { IfOk result HasDepth }
-    ensures fault { IfErr result (LacksValue (split_meant (rows_of (found_of inner.now)))) }
+    ensures { Answers (split_meant (rows_of (found_of inner.now))) result }
 {
     let out = text(inner, "out").ok_or(LineFault::NoValue)?;
     let capture = text(inner, "capture").ok_or(LineFault::NoValue)?;
@@ -231,9 +215,7 @@ fn split_from<'a>(inner: &ArgMatches<'a>) -> Result<Line<'a>, LineFault>
 
 /// The line that asks for a page.
 fn report_from<'a>(inner: &ArgMatches<'a>) -> Result<Line<'a>, LineFault>
-    ensures ok { IfOk result (λ line. report_meant (rows_of (found_of inner.now)) ≡ Some (meaning_of line)) }
-    ensures depth { IfOk result HasDepth }
-    ensures fault { IfErr result (LacksValue (report_meant (rows_of (found_of inner.now)))) }
+    ensures { Answers (report_meant (rows_of (found_of inner.now))) result }
 {
     let folder = text(inner, "folder").ok_or(LineFault::NoValue)?;
     let page = text(inner, "out").ok_or(LineFault::NoValue)?;
@@ -242,9 +224,7 @@ fn report_from<'a>(inner: &ArgMatches<'a>) -> Result<Line<'a>, LineFault>
 
 /// The line that asks for a comparison.
 fn compare_from<'a>(alloc: Global, inner: &ArgMatches<'a>) -> Result<Line<'a>, LineFault>
-    ensures ok { IfOk result (λ line. compare_meant (rows_of (found_of inner.now)) ≡ Some (meaning_of line)) }
-    ensures depth { IfOk result HasDepth }
-    ensures fault { IfErr result (LacksValue (compare_meant (rows_of (found_of inner.now)))) }
+    ensures { Answers (compare_meant (rows_of (found_of inner.now))) result }
 {
     let captures = values(inner, "captures").ok_or(LineFault::NoValue)?;
     let ignores = ignores(inner).ok_or(LineFault::Ignored)?;

@@ -1,12 +1,12 @@
 -- Whoever writes objects, as an event is answered.
-use Rattle.std.proofs.Common.{◌≡◌, ◌∙◌, ap, sym, subst, List, Option, Some, None}
+use Rattle.std.proofs.Common.{◌≡◌, ◌∙◌, ap, sym, subst, List}
 use Rattle.filter_db.specs.declared.place.Place.{Place}
 use Rattle.endpoint_state.specs.Settings.{Settings}
 use Rattle.endpoint_core.specs.Course.{Course, decision_of}
 use Rattle.endpoint_core.specs.Step.{Answer, Decided}
 use Rattle.stream_run.specs.Sights.{Due, answered as answered_as}
 use Rattle.decision_objects.specs.Objects.{object_text}
-use Rattle.decision_objects.specs.Onlooking.{Expects, Objects, Sees, Writing}
+use Rattle.decision_objects.specs.Onlooking.{Expects, Objects, Sees}
 use Rattle.decision_objects.specs.Writing.{Tells, Told}
 
 pub answered : (old opened : Objects) (last : Told) (a : Answer) → opened ≡ old → Tells opened.told last (object_text opened.origin opened.named a)
@@ -27,13 +27,3 @@ seen_answered before old new d a is changes told = (
   changes ∙ ap (λ (o : Objects). o.changes) is,
   subst (λ (o : Objects). Tells o.told new.told (object_text o.origin o.named a)) is told,
 )
-
--- ---- and where someone may
-
-pub writing_more : (P Q : Objects → Objects → Type 0) (old mid : Option Objects) (x new : Objects) → mid ≡ Some x → Writing P old mid → ((k : Objects) → P k x → Q k new)
-    → Writing Q old (Some new)
-writing_more P Q (Some k) mid x new is h f = f k (subst (λ (m : Option Objects). Writing P (Some k) m) is h)
-writing_more P Q None mid x new is h f = absurd (subst (λ (m : Option Objects). Writing P None m) is h)
-
-pub writing_one : (P : Objects → Objects → Type 0) (old : Option Objects) (x new : Objects) → old ≡ Some x → P x new → Writing P old (Some new)
-writing_one P old x new is h = subst (λ (m : Option Objects). Writing P m (Some new)) (sym is) h

@@ -43,10 +43,3 @@ SeesReply old d None new = new ≡ old
 -- the same of what was seen
 abbrev pub Sees : Objects → Sight → Objects → Type 0
 Sees old s new = SeesReply old (record { state = s.state; number = s.number; event = s.event }) s.reply new
-
--- where someone writes objects, this leaves what was written, and nobody begins to
-abbrev pub Writing : (Objects → Objects → Type 0) → Option Objects → Option Objects → Type 0
-Writing step (Some old) (Some new) = step old new
-Writing step (Some old) None = ⊥
-Writing step None (Some new) = ⊥
-Writing step None None = Unit {0}

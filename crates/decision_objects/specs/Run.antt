@@ -10,6 +10,7 @@ use Rattle.stream_run.specs.Sights.{Sight, sights}
 use Rattle.stream_run.specs.Steps.{changes_of}
 use Rattle.decision_objects.specs.Objects.{object_of}
 use Rattle.decision_objects.specs.Onlooking.{Objects, Sees, named_in}
+use Rattle.decision_objects.specs.Writing.{Tells}
 
 -- of an event that is told
 abbrev pub reply_object : List TimedChange → ℕ → Event → Option Answer → List ℕ
@@ -25,6 +26,15 @@ abbrev pub objects_of : List TimedChange → List Sight → List ℕ
 objects_of changes seen = flat_map (object_in changes) seen
 
 -- whoever writes objects looked on from the begin of a run of these segments, with these changes, to its end
-pub record IsWritten (segments : Segments) (S : Settings) (changes : List TimedChange) (es : List Event) (begun ended : Objects) : Type 0 where
+pub record IsWritten (segments : Segments) (S : Settings) (changes : List TimedChange) (es : List Event) (begun ended : Objects)
+    : Type 0 where
   pub of : begun.changes ≡ changes
   pub seen : FoldsTo Sees begun (sights segments (changes_of changes) (opened S) 0 es) ended
+
+-- behind such a run, of any events, the objects of those that are told were written; or the front of that at which the output
+-- failed
+abbrev pub WritesRuns : Type 0
+WritesRuns =
+    (segments : Segments) (S : Settings) (changes : List TimedChange) (es : List Event) (begun ended : Objects)
+    → IsWritten segments S changes es begun ended
+    → Tells begun.told ended.told (objects_of changes (sights segments (changes_of changes) (opened S) 0 es))

@@ -1,6 +1,7 @@
 //! Decisions as JSON objects, one for each event of a run, written to an output of their own while the run goes.
 //!
-//! Use first: [`Objects`] looks on while `stream_run` runs, and writes; [`Beside`] puts it beside whoever else looks on.
+//! Use first: [`Objects`] looks on while `stream_run` runs, and writes; [`Beside`](stream_run::Beside) puts it beside whoever
+//! else looks on.
 //!
 //! Specs to read, in order: `specs/Objects`, `specs/Run`, `specs/Onlooking`, `specs/Writing`.
 //!
@@ -13,7 +14,6 @@
 //! The digits of an event's number are counted on. No event asks for memory.
 #![tactic(auto)]
 
-mod beside;
 pub mod laws;
 mod object;
 mod objects;
@@ -21,7 +21,6 @@ mod origin;
 mod outcome;
 mod output;
 
-pub use beside::Beside;
 pub use object::{write_cut, write_drop, write_reply};
 pub use objects::Objects;
 pub use origin::Origin;

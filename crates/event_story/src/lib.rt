@@ -35,4 +35,4 @@ mod reading;
 mod refusal;
 mod story;
 
-pub use story::{story_in_run, story_of_event};
+pub use story::{can_come, story_in_run, story_of_event};

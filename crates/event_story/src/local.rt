@@ -1,7 +1,6 @@
 //! How a frame at a local port comes to a segment, test by test.
 ghost use Rattle.std.specs.Prelude.{◌≡◌, ◌≤◌, ◌++◌, length, OnOk};
 ghost use Rattle.event_story.specs.Local.{local_tests, vid_at, segment_fact, local_fact, local_facts_of};
-ghost use Rattle.event_story.specs.Tests.{refusal_of, told};
 
 use crate::ether::{destination_fact, has_vid, header_fact, source_fact, tag_fact, vid_in};
 use crate::fact::Fact;
@@ -25,26 +24,9 @@ pub(crate) fn put_local_facts(
     requires high { port ≤ length ports.now.ports }
     ensures { OnOk result (facts.new.items ≡ facts.old.items ++ local_facts_of ports.now port original octets.now came.now) }
 {
-    put_tests(facts, ports, port, original, octets, came, &local_tests())
-}
-
-/// Puts what each of some tests saw, up to the one that refuses.
-fn put_tests(
-    facts: &mut Vec<Fact>,
-    ports: &PortSet,
-    port: u8,
-    original: u32,
-    octets: &[u8],
-    came: &Result<Came, Refused>,
-    tests: &[Reason],
-) -> Result<(), AllocError>
-    requires low { 1 ≤ port }
-    requires high { port ≤ length ports.now.ports }
-    ensures { OnOk result (facts.new.items
-        ≡ facts.old.items ++ told (local_fact ports.now port original octets.now came.now) (refusal_of came.now) tests.now) }
-{
     let refusal = refusal_of(came);
-    for test in tests {
+    let tests = local_tests();
+    for test in &tests {
         let saw = local_fact(ports, port, original, octets, came, *test);
         put(facts, saw)?;
         if refuses(refusal, *test) {

@@ -1,7 +1,7 @@
 //! Neighbouring ports that a flood leaves out for the same cause, told as one.
 ghost use Rattle.std.specs.Prelude.{◌≡◌, ◌∷◌, ◌++◌, ◌+◌, ◌==◌, List, IfOk};
 ghost use Rattle.std.specs.Option.{option_to_list};
-ghost use Rattle.event_story.specs.Neighbours.{down_joined, folded, joined, outside_joined};
+ghost use Rattle.event_story.specs.Neighbours.{folded, joined};
 ghost use Rattle.event_story.specs.declared.fact.Fact.{Fact};
 
 use crate::fact::Fact;
@@ -57,35 +57,27 @@ fn put_apart(facts: &mut Vec<Fact>, begun: Fact, next: Fact) -> Result<Option<Fa
 fn joined(one: &Fact, other: &Fact) -> Option<Fact>
     ensures { result ≡ joined one.now other.now }
 {
-    match one {
-        Fact::PortsDown { first, last } => down_joined(*first, *last, other),
-        Fact::NoMembers { first, last } => outside_joined(*first, *last, other),
-        _ => None,
-    }
-}
-
-/// The same of ports that are down.
-fn down_joined(first: u8, last: u8, other: &Fact) -> Option<Fact>
-    ensures { result ≡ down_joined first last other.now }
-{
-    match other {
-        Fact::PortsDown {
-            first: next,
-            last: end,
-        } if follows(*next, last) => Some(Fact::PortsDown { first, last: *end }),
-        _ => None,
-    }
-}
-
-/// The same of ports that are no members.
-fn outside_joined(first: u8, last: u8, other: &Fact) -> Option<Fact>
-    ensures { result ≡ outside_joined first last other.now }
-{
-    match other {
-        Fact::NoMembers {
-            first: next,
-            last: end,
-        } if follows(*next, last) => Some(Fact::NoMembers { first, last: *end }),
+    match (one, other) {
+        (
+            Fact::PortsDown { first, last },
+            Fact::PortsDown {
+                first: next,
+                last: end,
+            },
+        ) if follows(*next, *last) => Some(Fact::PortsDown {
+            first: *first,
+            last: *end,
+        }),
+        (
+            Fact::NoMembers { first, last },
+            Fact::NoMembers {
+                first: next,
+                last: end,
+            },
+        ) if follows(*next, *last) => Some(Fact::NoMembers {
+            first: *first,
+            last: *end,
+        }),
         _ => None,
     }
 }

@@ -7,7 +7,6 @@ ghost use Rattle.event_story.specs.Packet.{packet_tests, packet_if, datagram_in,
 ghost use Rattle.event_story.specs.Packet.{header_refused, vni_fact, ip_fact, receiver_fact, udp_fact, sum_fact};
 ghost use Rattle.event_story.specs.Packet.{kind_of, peer_fact, group_fact, packet_fact, packet_facts_of};
 ghost use Rattle.endpoint_core.specs.Among.{segment_of};
-ghost use Rattle.event_story.specs.Tests.{refusal_of, told};
 ghost use Rattle.event_story.specs.declared.fact.Fact.TheVariants as facts;
 
 use crate::ether::{destination_fact, header_fact, source_fact, tag_fact};
@@ -30,23 +29,9 @@ pub(crate) fn put_packet_facts(
 ) -> Result<(), AllocError>
     ensures { OnOk result (facts.new.items ≡ facts.old.items ++ packet_facts_of under.now original octets.now came.now) }
 {
-    put_tests(facts, under, original, octets, came, &packet_tests())
-}
-
-/// Puts what each of some tests saw, up to the one that refuses.
-fn put_tests(
-    facts: &mut Vec<Fact>,
-    under: &Under,
-    original: u32,
-    octets: &[u8],
-    came: &Result<Came, Refused>,
-    tests: &[Reason],
-) -> Result<(), AllocError>
-    ensures { OnOk result (facts.new.items
-        ≡ facts.old.items ++ told (packet_fact under.now original octets.now came.now) (refusal_of came.now) tests.now) }
-{
     let refusal = refusal_of(came);
-    for test in tests {
+    let tests = packet_tests();
+    for test in &tests {
         let saw = packet_fact(under, original, octets, came, *test);
         put(facts, saw)?;
         if refuses(refusal, *test) {

@@ -1,5 +1,5 @@
 //! The story of an event.
-ghost use Rattle.std.specs.Prelude.{◌≡◌, ◌≤◌, ◌++◌, length, Err, IfOk, IsSome, IsTrue, Ok, true};
+ghost use Rattle.std.specs.Prelude.{◌≡◌, ◌≤◌, ◌++◌, length, Err, IfOk, IsSome, IsTrue, Ok, OnOk, true};
 ghost use Rattle.std.specs.List.{list_all};
 ghost use Rattle.endpoint_state.specs.Settings.{segment_at};
 ghost use Rattle.endpoint_state.specs.Sound.{is_reached};
@@ -9,6 +9,7 @@ ghost use Rattle.endpoint_core.specs.Decision.{refused_as};
 ghost use Rattle.endpoint_core.specs.Event.{frame_at, packet_at};
 ghost use Rattle.endpoint_core.specs.Kept.{state_of};
 ghost use Rattle.endpoint_core.specs.Step.{Decided, answer, by_verdict, decided, decided_in};
+ghost use Rattle.event_story.specs.Bridge.{bridge_facts};
 ghost use Rattle.event_story.specs.Story.{came_facts, frame_facts, arrival_facts, told, is_there, can_come, story, run_story};
 
 use crate::bridge::put_bridge_facts;
@@ -82,8 +83,8 @@ pub fn story_in_run(
     }
 }
 
-/// Whether an event can come to an endpoint.
-fn can_come(endpoint: &Endpoint, event: &Event) -> bool
+/// Whether an event can come to an endpoint: it isn't before the last one, and it is at a port that is there.
+pub fn can_come(endpoint: &Endpoint, event: &Event) -> bool
     ensures { result ≡ can_come (state_of endpoint.now) event.now }
 {
     endpoint.now() <= event.moment && is_there(endpoint.ports(), &event.happening)
@@ -224,9 +225,8 @@ fn sent_story(
         let B = aged t s.bridges in let d = by_verdict s.bridges.settings came.now (Ok places.now) in
         IfOk result (λ text. text.items ≡ told number event.now (facts.items ++ came_facts t s.bridges B (Ok came.now) d) (Decided d)) }
 {
-    let left = endpoint.now();
+    put_facts_of_bridge(&mut facts, endpoint, event, came, None)?;
     let state = endpoint.state();
-    put_bridge_facts(&mut facts, state, left, event.moment, came, None)?;
     put_outlet_facts(&mut facts, state, came.segment(), came.frame(), places)?;
     let text = sent_told(alloc, endpoint, number, event, &facts, came, places)?;
     Ok(text)
@@ -248,12 +248,28 @@ fn dropped_story(
         let B = aged t s.bridges in let d = by_verdict s.bridges.settings came.now (Err reason) in
         IfOk result (λ text. text.items ≡ told number event.now (facts.items ++ came_facts t s.bridges B (Ok came.now) d) (Decided d)) }
 {
-    let left = endpoint.now();
-    let state = endpoint.state();
-    put_bridge_facts(&mut facts, state, left, event.moment, came, Some(reason))?;
+    put_facts_of_bridge(&mut facts, endpoint, event, came, Some(reason))?;
     let refused = Refused::within(came.segment(), reason);
     let text = dropped_told(alloc, number, event, &facts, refused)?;
     Ok(text)
+}
+
+/// Puts the facts of the bridge of its segment on a frame; `dropped` is why that bridge sends it nowhere, where it does so.
+fn put_facts_of_bridge(
+    facts: &mut Vec<Fact>,
+    endpoint: &Endpoint,
+    event: &Event,
+    came: &Came,
+    dropped: Option<Reason>,
+) -> Result<(), AllocError>
+    requires time { (state_of endpoint.now).moment ≤ event.now.moment }
+    requires there { IsSome (segment_at (state_of endpoint.now).bridges.settings came.now.vid) }
+    ensures { let s = state_of endpoint.now in let t = event.now.moment in
+        OnOk result (facts.new.items ≡ facts.old.items ++ bridge_facts t s.bridges (aged t s.bridges) came.now dropped) }
+{
+    let left = endpoint.now();
+    let state = endpoint.state();
+    put_bridge_facts(facts, state, left, event.moment, came, dropped)
 }
 
 /// The lines of facts, and the decision line of a frame that leaves at these places.

@@ -1,7 +1,6 @@
 pub mod Cells
 pub mod Folds
 pub mod LineLemmas
-pub mod Lines
 pub mod Numbers
 pub mod Reading
 pub mod RowLemmas

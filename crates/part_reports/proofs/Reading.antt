@@ -24,7 +24,7 @@ use Rattle.part_reports.specs.Rows.{rows_of, told_by, with_row}
 use Rattle.part_reports.specs.declared.row.Row.{Row}
 use Rattle.part_reports.specs.declared.row.Row.TheVariants.{Count, Refused, Came, Left, Partial, Cut}
 use Rattle.part_reports.proofs.Folds.{Gives, Keeps, all_any, all_append, all_flat, all_weaker, flat_same, gives_at, gives_first, gives_last, range_same, stays, told_append}
-use Rattle.part_reports.proofs.Lines.{tells_all}
+use Rattle.line_words.proofs.Telling.{tells_all}
 use Rattle.part_reports.proofs.Numbers.{fault_at, reason_at, same_cause}
 use Rattle.part_reports.proofs.Telling.{changes_rows, counted, cuts_rows, partial_rows, place_rows, places_rows, rows_told, segment_rows, segments_rows, tells_told}
 use Rattle.part_reports.proofs.Tests.{both, both_of, mark_refl, mark_same, tap_refl, tap_same}

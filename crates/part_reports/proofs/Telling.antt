@@ -1,5 +1,5 @@
 -- The lines of a run's summary, and what they tell one by one.
-use Rattle.std.proofs.Common.{◌≡◌, ◌∙◌, ap, sym, refl, subst, ℕ, ◌^◌, ◌<◌, Bool, true, false, cond, List, [], ◌∷◌, ◌++◌, append_assoc, Option, Some, None, arith}
+use Rattle.std.proofs.Common.{◌≡◌, ◌∙◌, ap, refl, ℕ, ◌^◌, ◌<◌, Bool, true, false, cond, List, [], ◌∷◌, ◌++◌, append_assoc, Option, Some, None, arith}
 use Rattle.std.specs.Prelude.{◌==◌, codes, if◌then◌else◌, ⊤}
 use Rattle.std.specs.Fmt.{decimal}
 use Rattle.std.specs.List.{AllByRecursion, flat_map, range_with_len}
@@ -17,16 +17,16 @@ use Rattle.endpoint_state.specs.declared.fault.ChangeFault.{ChangeFault}
 use Rattle.decision_lines.specs.Lines.{cut_line}
 use Rattle.line_words.specs.Numbers.{number_of}
 use Rattle.line_words.specs.Words.{behind, word}
-use Rattle.line_words.proofs.Decimals.{lacks, lacks_more, number_decimal}
+use Rattle.line_words.proofs.Decimals.{IsWord, join, lacks, lacks_more, number_decimal, number_word, octet_decimal}
 use Rattle.line_words.proofs.Fronts.{behind_front, word_front}
+use Rattle.line_words.proofs.Telling.{Tells, tells_as, tells_each, tells_more, tells_none}
 use Rattle.run_counts.specs.Summary.{causes, changes_text, count_line, cut_at, cuts_text, dropped_line, flow_line, partial_line, place_lines, places_text, reasons, refused_line, segment_lines, segment_word, segments_text, sent_line, vids}
 use Rattle.run_counts.specs.declared.flow.Flow.{Flow}
 use Rattle.part_reports.specs.Told.{IsFlow, IsPlace, IsSegment, IsTold, Told, text_of}
 use Rattle.part_reports.specs.Rows.{count_in, count_of, flow_by, flow_in, row_in, segment_of, small, tap_of}
 use Rattle.part_reports.specs.declared.row.Row.{Row}
 use Rattle.part_reports.specs.declared.row.Row.TheVariants.{Count, Refused, Came, Left, Partial, Cut}
-use Rattle.part_reports.proofs.Lines.{Tells, tells_each, tells_line, tells_more, tells_none}
-use Rattle.part_reports.proofs.Words.{IsWord, fault_small, fault_word, number_word, place_back, place_word, reason_small, reason_word, segment_back, segment_is_word, small_back}
+use Rattle.part_reports.proofs.Words.{fault_small, fault_word, place_back, place_word, reason_small, reason_word, segment_back, segment_is_word}
 use Rattle.part_reports.proofs.Folds.{all_any, all_range}
 
 -- ---- what the lines tell
@@ -64,9 +64,6 @@ rows_told ports t = segments_rows t ++ changes_rows t ++ places_rows ports t ++ 
 
 -- ---- words in a line
 
-join : (a b : List ℕ) → lacks 10 a ≡ true → lacks 10 b ≡ true → lacks 10 (a ++ 32 ∷ b) ≡ true
-join a b first second = lacks_more 10 a (32 ∷ b) first second
-
 flat_sent : (a s b n : List ℕ) → (a ++ 32 ∷ []) ++ s ++ (32 ∷ b) ++ (32 ∷ []) ++ n ++ 10 ∷ [] ≡ (a ++ 32 ∷ (s ++ 32 ∷ (b ++ 32 ∷ n))) ++ 10 ∷ []
 flat_sent a s b n = simp append_assoc refl
 
@@ -92,7 +89,7 @@ numbered_back : (row : ℕ → ℕ → Row) (number count : ℕ) (name : List �
 numbered_back row number count name low fits is =
     let text : List ℕ = decimal number ++ 32 ∷ (name ++ 32 ∷ decimal count) in
     let digits = number_word number (omega (arith, low)) in
-    let first : small (word text) ≡ Some number = ap small (word_front (decimal number) (name ++ 32 ∷ decimal count) digits.space) ∙ small_back number low in
+    let first : small (word text) ≡ Some number = ap small (word_front (decimal number) (name ++ 32 ∷ decimal count) digits.space) ∙ octet_decimal number low in
     let last : number_of (behind (behind text)) ≡ Some count =
     ap (λ l. number_of (behind l)) (behind_front (decimal number) (name ++ 32 ∷ decimal count) digits.space)
     ∙ ap number_of (behind_front name (decimal count) is.space) ∙ number_decimal count fits in
@@ -176,20 +173,16 @@ cut_row tap whole ports low is =
 
 -- ---- lines of counts
 
--- the same text, put otherwise
-tells_as : (text body : List ℕ) (row : Row) → text ≡ body ++ 10 ∷ [] → lacks 10 body ≡ true → row_in body ≡ Some row → Tells text (row ∷ [])
-tells_as text body row is whole told = subst (λ l. Tells l (row ∷ [])) (sym is) (tells_line body row whole told)
-
-tells_count : (words : List ℕ) (row : ℕ → Row) (count : ℕ) → Tells (words ++ codes " " ++ decimal count ++ 10 ∷ []) (row count ∷ []) → Tells (count_line words count) (counted row count)
+tells_count : (words : List ℕ) (row : ℕ → Row) (count : ℕ) → Tells row_in (words ++ codes " " ++ decimal count ++ 10 ∷ []) (row count ∷ []) → Tells row_in (count_line words count) (counted row count)
 unfolding count_line
 tells_count words row count told = by (count == 0)
   where
-    by : (b : Bool) → Tells (cond b [] (words ++ codes " " ++ decimal count ++ 10 ∷ [])) (cond b [] (row count ∷ []))
+    by : (b : Bool) → Tells row_in (cond b [] (words ++ codes " " ++ decimal count ++ 10 ∷ [])) (cond b [] (row count ∷ []))
     by true = tells_none
     by false = told
 
 module _ (ports : ℕ) (low : ports < 256) (t : Told) (is : IsTold ports t) where
-  tells_sent : (segment : Option ℕ) → IsSegment segment → Tells (sent_line t.counts segment) (counted (Count segment 0) (t.counts segment 0))
+  tells_sent : (segment : Option ℕ) → IsSegment segment → Tells row_in (sent_line t.counts segment) (counted (Count segment 0) (t.counts segment 0))
   unfolding sent_line
   tells_sent segment so =
       let count = t.counts segment 0 in
@@ -202,7 +195,7 @@ module _ (ports : ℕ) (low : ports < 256) (t : Told) (is : IsTold ports t) wher
       (sent_row segment count so fits))
 
   tells_dropped : (segment : Option ℕ) → IsSegment segment → (reason : Reason)
-      → Tells (dropped_line t.counts segment reason) (counted (Count segment (reason_number reason)) (t.counts segment (reason_number reason)))
+      → Tells row_in (dropped_line t.counts segment reason) (counted (Count segment (reason_number reason)) (t.counts segment (reason_number reason)))
   unfolding dropped_line
   tells_dropped segment so reason =
       let number = reason_number reason in
@@ -218,7 +211,7 @@ module _ (ports : ℕ) (low : ports < 256) (t : Told) (is : IsTold ports t) wher
       (join (codes "dropped") numbers refl (numbered_line number count (name_of reason) small fits (reason_word reason)))))
       (dropped_row segment number count (name_of reason) so small fits (reason_word reason)))
 
-  tells_segment : (segment : Option ℕ) → IsSegment segment → Tells (segment_lines t.counts segment) (segment_rows t segment)
+  tells_segment : (segment : Option ℕ) → IsSegment segment → Tells row_in (segment_lines t.counts segment) (segment_rows t segment)
   tells_segment segment so =
       tells_more _ _ _ _ (tells_sent segment so)
       (tells_each (λ (reason : Reason). ⊤) (dropped_line t.counts segment)
@@ -229,13 +222,13 @@ module _ (ports : ℕ) (low : ports < 256) (t : Told) (is : IsTold ports t) wher
   unfolding vids
   vids_all = all_range IsVid 1 4094 (λ k from to. (from, omega (arith, to)))
 
-  tells_segments : Tells (segments_text t.counts) (segments_rows t)
+  tells_segments : Tells row_in (segments_text t.counts) (segments_rows t)
   tells_segments =
       tells_more _ _ _ _
       (tells_each IsVid (λ vid. segment_lines t.counts (Some vid)) (λ vid. segment_rows t (Some vid)) (λ vid so. tells_segment (Some vid) so) vids vids_all)
       (tells_segment None tt)
 
-  tells_refused : (fault : ChangeFault) → Tells (refused_line t.totals.refused fault) (counted (Refused (fault_number fault)) (t.totals.refused fault))
+  tells_refused : (fault : ChangeFault) → Tells row_in (refused_line t.totals.refused fault) (counted (Refused (fault_number fault)) (t.totals.refused fault))
   unfolding refused_line
   tells_refused fault =
       let number = fault_number fault in
@@ -249,7 +242,7 @@ module _ (ports : ℕ) (low : ports < 256) (t : Told) (is : IsTold ports t) wher
       (numbered_line number count (fault_name fault) small fits (fault_word fault)))
       (refused_row number count (fault_name fault) small fits (fault_word fault)))
 
-  tells_changes : Tells (changes_text t.totals.refused) (changes_rows t)
+  tells_changes : Tells row_in (changes_text t.totals.refused) (changes_rows t)
   tells_changes =
       tells_each (λ (fault : ChangeFault). ⊤) (refused_line t.totals.refused) (λ fault. counted (Refused (fault_number fault)) (t.totals.refused fault))
       (λ fault _. tells_refused fault) causes (all_any causes)
@@ -262,26 +255,26 @@ module _ (ports : ℕ) (low : ports < 256) (t : Told) (is : IsTold ports t) wher
       lacks_more 10 (codes "place ") (tap_word tap ++ 32 ∷ more) refl (join (tap_word tap) more (place_word ports tap low so).line
       (join direction numbers free (join (decimal flow.frames) (decimal flow.octets) (number_word flow.frames fits.0).line (number_word flow.octets fits.1).line)))
 
-  tells_came : (tap : Tap) → IsPlace ports tap → Tells (flow_line tap (codes "in") (t.totals.came tap)) (Came tap (t.totals.came tap) ∷ [])
+  tells_came : (tap : Tap) → IsPlace ports tap → Tells row_in (flow_line tap (codes "in") (t.totals.came tap)) (Came tap (t.totals.came tap) ∷ [])
   unfolding flow_line
   tells_came tap so =
       let flow = t.totals.came tap in
       tells_as _ _ (Came tap flow) (flat_flow (codes "place ") (tap_word tap) (codes "in") (decimal flow.frames) (decimal flow.octets))
       (flow_line_whole tap (codes "in") flow so (is.came tap) refl) (came_row tap flow ports low so (is.came tap))
 
-  tells_left : (tap : Tap) → IsPlace ports tap → Tells (flow_line tap (codes "out") (t.totals.left tap)) (Left tap (t.totals.left tap) ∷ [])
+  tells_left : (tap : Tap) → IsPlace ports tap → Tells row_in (flow_line tap (codes "out") (t.totals.left tap)) (Left tap (t.totals.left tap) ∷ [])
   unfolding flow_line
   tells_left tap so =
       let flow = t.totals.left tap in
       tells_as _ _ (Left tap flow) (flat_flow (codes "place ") (tap_word tap) (codes "out") (decimal flow.frames) (decimal flow.octets))
       (flow_line_whole tap (codes "out") flow so (is.left tap) refl) (left_row tap flow ports low so (is.left tap))
 
-  tells_place : (tap : Tap) → IsPlace ports tap → Tells (place_lines t.totals tap) (place_rows t tap)
+  tells_place : (tap : Tap) → IsPlace ports tap → Tells row_in (place_lines t.totals tap) (place_rows t tap)
   tells_place tap so =
       tells_more (flow_line tap (codes "in") (t.totals.came tap)) (flow_line tap (codes "out") (t.totals.left tap))
       (Came tap (t.totals.came tap) ∷ []) (Left tap (t.totals.left tap) ∷ []) (tells_came tap so) (tells_left tap so)
 
-  tells_places : Tells (places_text t.totals ports) (places_rows ports t)
+  tells_places : Tells row_in (places_text t.totals ports) (places_rows ports t)
   tells_places =
       tells_more _ _ _ _
       (tells_each (λ port. IsPlace ports (Port port)) (λ port. place_lines t.totals (Port port)) (λ port. place_rows t (Port port))
@@ -289,7 +282,7 @@ module _ (ports : ℕ) (low : ports < 256) (t : Told) (is : IsTold ports t) wher
       (all_range (λ port. IsPlace ports (Port port)) 1 ports (λ k from to. (from, omega (arith, to)))))
       (tells_place Underlay tt)
 
-  tells_partial : Tells (partial_line t.totals.partial) (partial_rows t)
+  tells_partial : Tells row_in (partial_line t.totals.partial) (partial_rows t)
   unfolding partial_line
   tells_partial =
       let count = t.totals.partial in
@@ -297,7 +290,7 @@ module _ (ports : ℕ) (low : ports < 256) (t : Told) (is : IsTold ports t) wher
       (tells_as _ (codes "checksum partial " ++ decimal count) (Partial count) refl
       (lacks_more 10 (codes "checksum partial ") (decimal count) refl (number_word count is.partial).line) (partial_row count is.partial))
 
-  tells_cut : (tap : Tap) → IsPlace ports tap → Tells (cut_line (cut_at t.totals tap)) (Cut tap ∷ [])
+  tells_cut : (tap : Tap) → IsPlace ports tap → Tells row_in (cut_line (cut_at t.totals tap)) (Cut tap ∷ [])
   tells_cut tap so =
       let whole = (t.totals.came tap).frames in
       tells_as _ _ (Cut tap) (flat_cut (codes "cut ") (tap_word tap) (decimal whole))
@@ -305,10 +298,10 @@ module _ (ports : ℕ) (low : ports < 256) (t : Told) (is : IsTold ports t) wher
       (join (tap_word tap) (decimal whole) (place_word ports tap low so).line (number_word whole (is.came tap).0).line))
       (cut_row tap whole ports low so)
 
-  tells_cuts : Tells (cuts_text t.totals t.cut) (cuts_rows t)
+  tells_cuts : Tells row_in (cuts_text t.totals t.cut) (cuts_rows t)
   tells_cuts =
       tells_each (IsPlace ports) (λ tap. cut_line (cut_at t.totals tap)) (λ tap. Cut tap ∷ []) tells_cut t.cut (recursion_from_All (IsPlace ports) t.cut is.cut)
 
   -- all lines of a summary are read as what they tell
-  pub tells_told : Tells (text_of ports t) (rows_told ports t)
+  pub tells_told : Tells row_in (text_of ports t) (rows_told ports t)
   tells_told = tells_more _ _ _ _ (tells_more _ _ _ _ (tells_more _ _ _ _ (tells_more _ _ _ _ tells_segments tells_changes) tells_places) tells_partial) tells_cuts

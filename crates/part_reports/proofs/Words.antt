@@ -1,9 +1,9 @@
 -- The words of a summary's lines.
-use Rattle.std.proofs.Common.{◌≡◌, ◌∙◌, ap, sym, refl, ℕ, ◌^◌, ◌<◌, Bool, true, false, List, Option, Some, None, arith, le-leb, lit<}
+use Rattle.std.proofs.Common.{◌≡◌, ◌∙◌, ap, sym, refl, ℕ, ◌^◌, ◌<◌, Bool, true, false, Option, Some, None, arith, le-leb, lit<}
 use Rattle.std.specs.Prelude.{codes}
 use Rattle.std.specs.Fmt.{decimal}
 use Rattle.std.specs.Option.{option_and_then}
-use Rattle.std.proofs.lemmas.Bool.{cond-true, cond-false, lt-ltb}
+use Rattle.std.proofs.lemmas.Bool.{cond-true, cond-false}
 use Rattle.header_octets.specs.Octets.{is_same}
 use Rattle.header_octets.proofs.OctetsLemmas.{is_same-true}
 use Rattle.frame_view.specs.Reason.{name_of, number_of as reason_number}
@@ -16,30 +16,11 @@ use Rattle.endpoint_state.specs.Fault.{name_of as fault_name, number_of as fault
 use Rattle.endpoint_state.specs.declared.fault.ChangeFault.{ChangeFault}
 use Rattle.endpoint_state.specs.declared.fault.ChangeFault.TheVariants as faults
 use Rattle.line_words.specs.Numbers.{number_of}
-use Rattle.line_words.proofs.Decimals.{IsNoDigit, lacks, lacks_decimal, lacks_more, number_decimal}
+use Rattle.line_words.proofs.Decimals.{IsWord, lacks_more, number_decimal, number_word, octet_decimal}
 use Rattle.run_counts.specs.Summary.{segment_word}
 use Rattle.part_reports.specs.Told.{IsPlace, IsSegment}
-use Rattle.part_reports.specs.Rows.{byte_of, segment_of, small, tap_of, vid_of}
+use Rattle.part_reports.specs.Rows.{segment_of, tap_of, vid_of}
 use Rattle.part_reports.proofs.Tests.{both}
-
--- neither a line feed nor a space is in it
-pub record IsWord (w : List ℕ) : Type 0 where
-  pub line : lacks 10 w ≡ true
-  pub space : lacks 32 w ≡ true
-
-no_feed : IsNoDigit 10
-no_feed d low = λ is. absurd (omega (arith, is))
-
-no_space : IsNoDigit 32
-no_space d low = λ is. absurd (omega (arith, is))
-
-pub number_word : (n : ℕ) → n < 2 ^ 64 → IsWord (decimal n)
-number_word n fits = record { line = lacks_decimal 10 n no_feed fits; space = lacks_decimal 32 n no_space fits }
-
--- ---- numbers of 8 bits
-
-pub small_back : (n : ℕ) → n < 256 → small (decimal n) ≡ Some n
-small_back n low = ap (option_and_then byte_of) (number_decimal n (omega (arith, low))) ∙ cond-true _ _ _ (lt-ltb n 256 low)
 
 -- ---- places
 
@@ -51,7 +32,7 @@ place_word ports (Port port) low is =
 place_word ports Underlay low is = record { line = refl; space = refl }
 
 pub place_back : (ports : ℕ) (tap : Tap) → ports < 256 → IsPlace ports tap → tap_of (tap_word tap) ≡ Some tap
-place_back ports (Port port) low is = ap (option_and_then (λ p. Some (Port p))) (small_back port (omega (arith, low, is.1)))
+place_back ports (Port port) low is = ap (option_and_then (λ p. Some (Port p))) (octet_decimal port (omega (arith, low, is.1)))
 place_back ports Underlay low is = refl
 
 -- ---- segments

@@ -3,14 +3,16 @@
 --     rows_of      the lines of a text, in order
 --     with_row, told_by      the counts behind what a line tells, and behind many
 -- A line is read here by its words alone: whether it is written as it has to be is seen where the counts are written again.
-use Rattle.std.specs.Prelude.{ℕ, ◌==◌, ◌&&◌, nat_lt, nat_le, if◌then◌else◌, List, [], ◌∷◌, ◌++◌, codes, Option, Some, None}
-use Rattle.std.specs.Option.{option_and_then, option_to_list}
+use Rattle.std.specs.Prelude.{ℕ, ◌==◌, ◌&&◌, nat_le, if◌then◌else◌, List, [], ◌∷◌, ◌++◌, codes, Option, Some, None}
+use Rattle.std.specs.List.{filter_map}
+use Rattle.std.specs.Option.{option_and_then}
 use Rattle.header_octets.specs.Octets.{is_same}
 use Rattle.timeline.specs.declared.source.Tap.{Tap}
 use Rattle.timeline.specs.declared.source.Tap.TheVariants.{Port, Underlay}
 use Rattle.endpoint_state.specs.Fault.{number_of as fault_number}
 use Rattle.endpoint_core.specs.Counts.{is_mark}
 use Rattle.line_words.specs.Words.{word, behind}
+use Rattle.line_words.specs.Lines.{whole_lines}
 use Rattle.line_words.specs.Numbers.{number_of}
 use Rattle.run_counts.specs.Totals.{same_tap}
 use Rattle.run_counts.specs.declared.flow.Flow.{Flow}
@@ -18,16 +20,10 @@ use Rattle.part_reports.specs.Told.{Told}
 use Rattle.part_reports.specs.Kept.{is_kept}
 use Rattle.part_reports.specs.declared.row.Row.{Row}
 use Rattle.part_reports.specs.declared.row.Row.TheVariants.{Count, Refused, Came, Left, Partial, Cut}
+-- a number of 8 bits, and that of a word
+pub use Rattle.line_words.specs.Numbers.{byte_of, octet_of as small}
 
 -- ---- words
-
--- a number of 8 bits
-abbrev pub byte_of : ℕ → Option ℕ
-byte_of number = if nat_lt number 256 then Some number else None
-
--- that of a word
-abbrev pub small : List ℕ → Option ℕ
-small text = option_and_then byte_of (number_of text)
 
 -- p1 is a port, and any other word the underlay
 abbrev pub tap_of : List ℕ → Option Tap
@@ -98,14 +94,9 @@ row_in line =
     else if is_same (word line) (codes "cut") then cut_in (behind line)
     else None
 
--- those of a text, behind the begin of a line
-abbrev pub rows_from : List ℕ → List ℕ → List Row
-rows_from line [] = []
-rows_from line (c ∷ cs) = if c == 10 then option_to_list (row_in line) ++ rows_from [] cs else rows_from (line ++ c ∷ []) cs
-
--- those of a whole text
+-- those of a text
 abbrev pub rows_of : List ℕ → List Row
-rows_of text = rows_from [] text
+rows_of text = filter_map row_in (whole_lines text)
 
 -- ---- counts
 

@@ -25,10 +25,8 @@
 #![tactic(auto)]
 
 mod adding;
-mod difference;
 mod fault;
 pub mod laws;
-mod line;
 mod row;
 mod summary;
 mod table_laws;

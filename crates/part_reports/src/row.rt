@@ -1,10 +1,10 @@
 //! What the lines of a summary tell, one by one.
 ghost use Rattle.std.specs.Prelude.{◌≡◌};
-ghost use Rattle.part_reports.specs.Rows.{byte_of, count_in, count_of, cut_in, dropped_in, flow_by, flow_in};
-ghost use Rattle.part_reports.specs.Rows.{partial_in, refused_in, row_in, segment_of, small, tap_of, vid_of};
+ghost use Rattle.part_reports.specs.Rows.{count_in, count_of, cut_in, dropped_in, flow_by, flow_in};
+ghost use Rattle.part_reports.specs.Rows.{partial_in, refused_in, row_in, segment_of, tap_of, vid_of};
 
 use frame_view::Vid;
-use line_words::{behind_word, first_word, number_of};
+use line_words::{behind_word, first_word, number_of, octet_of};
 use run_counts::Flow;
 use timeline::Tap;
 
@@ -75,7 +75,7 @@ fn dropped_in(segment: Option<Vid>, words: &[u8]) -> Option<Row>
     ensures { result ≡ dropped_in segment words.now }
 {
     let (word, behind) = first_word(words);
-    let number = small(word)?;
+    let number = octet_of(word)?;
     let count = number_of(behind_word(behind))?;
     Some(Row::Count(segment, number, count))
 }
@@ -85,7 +85,7 @@ fn refused_in(words: &[u8]) -> Option<Row>
     ensures { result ≡ refused_in words.now }
 {
     let (word, behind) = first_word(words);
-    let number = small(word)?;
+    let number = octet_of(word)?;
     let count = number_of(behind_word(behind))?;
     Some(Row::Refused(number, count))
 }
@@ -162,28 +162,9 @@ fn tap_of(word: &[u8]) -> Option<Tap>
     match word {
         [] => None,
         [b'p', digits @ ..] => {
-            let port = small(digits)?;
+            let port = octet_of(digits)?;
             Some(Tap::Port(port))
         }
         _ => Some(Tap::Underlay),
-    }
-}
-
-/// A number below 256.
-fn small(word: &[u8]) -> Option<u8>
-    ensures { result ≡ small word.now }
-{
-    let number = number_of(word)?;
-    byte_of(number)
-}
-
-/// A number below 256, as such.
-fn byte_of(number: u64) -> Option<u8>
-    ensures { result ≡ byte_of number }
-{
-    if number < 256 {
-        Some(number as u8)
-    } else {
-        None
     }
 }

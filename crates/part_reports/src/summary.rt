@@ -6,11 +6,10 @@ ghost use Rattle.part_reports.specs.Rows.{rows_of, told_by, with_row};
 ghost use Rattle.part_reports.specs.declared.fault.ReportFault.TheVariants.{OutOfMemory};
 
 use crate::adding::{add_all, set_count};
-use crate::difference::first_difference;
 use crate::fault::ReportFault;
-use crate::line::next_line;
 use crate::row::{Row, row_in};
 use frame_view::Vid;
+use line_words::{first_difference, next_line};
 use run_counts::{
     Counted, Flows, Refusals, none_refused, put_changes, put_cuts, put_partial, put_places,
     put_segments,

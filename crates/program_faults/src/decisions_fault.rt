@@ -5,7 +5,7 @@ use thiserror::Error;
 /// Why the decision lines of a run don't tell the event of a record.
 #[derive(Clone, Copy, Debug, PartialEq, Eq, Error)]
 pub enum DecisionsFault {
-    /// A line has more than 4,096 octets.
+    /// A line has more than 131,072 octets.
     #[error("long line")]
     LongLine,
     /// A line is no decision line.

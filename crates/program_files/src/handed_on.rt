@@ -72,41 +72,6 @@ impl<F: Write + Drop> Outputs<F> {
             (handed_on files.ports.items files.underlay files.decisions)) }
         ensures in_files { IfOk result (λ files. AreHeld F.contents (handed_on files.ports.items files.underlay files.decisions)) }
     {
-        match self.hand_on_all(alloc, failed) {
-            Some(files) => Ok(files),
-            None => Err(first_failure(failed)),
-        }
-    }
-
-    /// Hands on what the blocks hold, behind a run or a merge that gave up for this failure. Where that is a write into one of
-    /// these files it answers it with what the system told, and else the same. All outputs that can't be written are noted.
-    pub fn finish_behind<'a>(
-        self,
-        alloc: Global,
-        failure: Failure<'a>,
-        failed: &mut FailedOutputs,
-    ) -> Failure<'a> {
-        let _ = self.hand_on_all(alloc, failed);
-        match failure {
-            Failure::Write(output) => match failed.find(output) {
-                Some(file) => file.failure(),
-                None => Failure::Write(output),
-            },
-            other => other,
-        }
-    }
-
-    /// Hands on what the blocks hold. It answers the files where all have what was written to them; those that haven't are
-    /// noted, and memory was refused where none is.
-    fn hand_on_all(self, alloc: Global, failed: &mut FailedOutputs) -> Option<HandedOn<F>>
-        ensures count { IfSome result (λ files. length files.ports.items ≡ length self.ports.items) }
-        ensures ports { IfSome result (λ files. All (λ (b : Block). b.held ≡ []) files.ports.items) }
-        ensures underlay { IfSome result (λ files. files.underlay.held ≡ []) }
-        ensures decisions { IfSome result (λ files. files.decisions.held ≡ []) }
-        ensures kept { IfSome result (λ files. AreHandedOn (written self.ports.items self.underlay self.decisions)
-            (handed_on files.ports.items files.underlay files.decisions)) }
-        ensures in_files { IfSome result (λ files. AreHeld F.contents (handed_on files.ports.items files.underlay files.decisions)) }
-    {
         let Outputs {
             ports,
             underlay,
@@ -119,16 +84,34 @@ impl<F: Write + Drop> Outputs<F> {
         let underlay_stands = hand_on(OutputFile::Underlay, &mut underlay, failed);
         let decisions_stand = hand_on_lines(&mut decisions, failed);
         if !underlay_stands || !decisions_stand {
-            return None;
+            return Err(first_failure(failed));
         }
         match ports {
-            Some(ports) => Some(HandedOn {
+            Some(ports) => Ok(HandedOn {
                 ports,
                 underlay,
                 decisions,
                 part_file,
             }),
-            None => None,
+            None => Err(first_failure(failed)),
+        }
+    }
+
+    /// Hands on what the blocks hold, behind a run or a merge that gave up for this failure. Where that is a write into one of
+    /// these files it answers it with what the system told, and else the same. All outputs that can't be written are noted.
+    pub fn finish_behind<'a>(
+        self,
+        alloc: Global,
+        failure: Failure<'a>,
+        failed: &mut FailedOutputs,
+    ) -> Failure<'a> {
+        let _ = self.finish(alloc, failed);
+        match failure {
+            Failure::Write(output) => match failed.find(output) {
+                Some(file) => file.failure(),
+                None => Failure::Write(output),
+            },
+            other => other,
         }
     }
 }

@@ -8,7 +8,7 @@
 use crate::names::is_same;
 use crate::outputs::path_of;
 use program_faults::{Failure, OutputFile};
-use std::fs::{self, OpenOptions};
+use std::fs::{self, Metadata, OpenOptions};
 use std::io::Write;
 use std::path::Path;
 use std::rt::Files;
@@ -18,29 +18,23 @@ const STANDARD_OUTPUT_FILE: &str = "/dev/stdout";
 
 /// Removes the tables and the counts that an earlier part left in a folder, so that none of them passes for this part's.
 pub fn drop_texts<R: Files + AllocGlobal>(rt: &R, folder: &str) -> Result<(), Failure<'static>> {
-    drop_text(rt, folder, OutputFile::Tables)?;
-    drop_text(rt, folder, OutputFile::Summary)
+    drop_text(rt, folder, OutputFile::Tables, Printed::Goes)?;
+    drop_text(rt, folder, OutputFile::Summary, Printed::Goes)
 }
 
 /// Removes what an earlier part left in a folder besides its outputs, where something else than a part is to be written there:
 /// first what it was made from, without which no merge takes the folder.
 pub fn drop_part<R: Files + AllocGlobal>(rt: &R, folder: &str) -> Result<(), Failure<'static>> {
-    drop_unprinted(rt, folder, OutputFile::PartRecord)?;
-    drop_unprinted(rt, folder, OutputFile::Tables)?;
-    drop_unprinted(rt, folder, OutputFile::Summary)
+    drop_text(rt, folder, OutputFile::PartRecord, Printed::Stays)?;
+    drop_text(rt, folder, OutputFile::Tables, Printed::Stays)?;
+    drop_text(rt, folder, OutputFile::Summary, Printed::Stays)
 }
 
-/// Removes a file, where there is one, but for the file that standard output is: in that will stand what is printed.
-fn drop_unprinted<R: Files + AllocGlobal>(
-    rt: &R,
-    folder: &str,
-    output: OutputFile,
-) -> Result<(), Failure<'static>> {
-    let path = path_of(rt.alloc(), folder, output)?;
-    match fs::metadata(rt, path.as_path()) {
-        Ok(found) if is_same(rt, Path::new(STANDARD_OUTPUT_FILE), &found) => Ok(()),
-        _ => drop_text(rt, folder, output),
-    }
+/// What becomes of the file that standard output is, in which will stand what is printed.
+#[derive(Clone, Copy)]
+enum Printed {
+    Stays,
+    Goes,
 }
 
 /// Removes a file, where there is one. A pipe or a device stays, and a folder in its place is refused.
@@ -48,14 +42,24 @@ fn drop_text<R: Files + AllocGlobal>(
     rt: &R,
     folder: &str,
     output: OutputFile,
+    printed: Printed,
 ) -> Result<(), Failure<'static>> {
     let path = path_of(rt.alloc(), folder, output)?;
     match fs::metadata(rt, path.as_path()) {
+        Ok(found) if stays(rt, printed, &found) => Ok(()),
         Ok(found) if found.is_file() => {
             fs::remove_file(rt, path.as_path()).map_err(|error| Failure::writing(output, &error))
         }
         Ok(found) if found.is_dir() => Err(Failure::Write(output)),
         _ => Ok(()),
+    }
+}
+
+/// Whether a file is that of standard output, and that one stays.
+fn stays<R: Files>(rt: &R, printed: Printed, found: &Metadata) -> bool {
+    match printed {
+        Printed::Stays => is_same(rt, Path::new(STANDARD_OUTPUT_FILE), found),
+        Printed::Goes => false,
     }
 }
 

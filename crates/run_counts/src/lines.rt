@@ -9,73 +9,11 @@ ghost use Rattle.run_counts.specs.Summary.{places_text, refused_line, segment_li
 use crate::counted::Counted;
 use crate::flow::{Flow, Flows};
 use crate::refusals::{Refusals, refused_for};
-use endpoint_core::ChangeFault;
-use frame_view::{Reason, Vid};
+use endpoint_state::{CHANGE_FAULTS, ChangeFault};
+use frame_view::{REASONS, Reason, Vid};
 use std::alloc::AllocError;
 use std::fmt::Write;
 use timeline::Tap;
-
-/// The reasons of drops, their numbers rising.
-const REASONS: [Reason; 40] = [
-    Reason::TooLong,
-    Reason::Sliced,
-    Reason::Runt,
-    Reason::PortDown,
-    Reason::BadSource,
-    Reason::Reserved,
-    Reason::CutTag,
-    Reason::BadVid,
-    Reason::FrameType,
-    Reason::NoSegment,
-    Reason::NotMember,
-    Reason::NotIp,
-    Reason::BadIp,
-    Reason::BadIpSum,
-    Reason::BadOuterSource,
-    Reason::NotForUs,
-    Reason::Fragment,
-    Reason::NotUdp,
-    Reason::BadUdp,
-    Reason::NotTunnel,
-    Reason::ZeroSum,
-    Reason::BadUdpSum,
-    Reason::ShortTunnel,
-    Reason::NoVniFlag,
-    Reason::BadVersion,
-    Reason::Control,
-    Reason::NotEthernet,
-    Reason::BadOptions,
-    Reason::CriticalOption,
-    Reason::UnknownVni,
-    Reason::WrongGroup,
-    Reason::UnknownPeer,
-    Reason::InnerRunt,
-    Reason::InnerTag,
-    Reason::SamePlace,
-    Reason::Horizon,
-    Reason::Unreachable,
-    Reason::NoOutlet,
-    Reason::TooBig,
-    Reason::InnerTagOut,
-];
-
-/// The causes for which changes are refused, their numbers rising.
-const CAUSES: [ChangeFault; 14] = [
-    ChangeFault::NoSegment,
-    ChangeFault::NoPort,
-    ChangeFault::AlreadyThere,
-    ChangeFault::NotThere,
-    ChangeFault::FloodFull,
-    ChangeFault::TableFull,
-    ChangeFault::GroupAddress,
-    ChangeFault::OutOfRange,
-    ChangeFault::NoFamily,
-    ChangeFault::OwnAddress,
-    ChangeFault::SegmentThere,
-    ChangeFault::PoolFull,
-    ChangeFault::SegmentsFull,
-    ChangeFault::NoTunnel,
-];
 
 /// Puts the lines of all segments, their VIDs rising, and then those of none.
 pub fn put_segments<C: Counted>(text: &mut String, counts: &C) -> Result<(), AllocError>
@@ -171,7 +109,7 @@ fn put_front(text: &mut String, segment: &Option<Vid>) -> Result<(), AllocError>
 pub fn put_changes(text: &mut String, refusals: &Refusals) -> Result<(), AllocError>
     ensures { OnOk result (string_bytes text.new ≡ string_bytes text.old ++ changes_text (refusals_in refusals.now)) }
 {
-    put_causes(text, refusals, &CAUSES)
+    put_causes(text, refusals, &CHANGE_FAULTS)
 }
 
 /// Puts how often changes were refused, cause by cause.

@@ -6,6 +6,8 @@ use Rattle.std.proofs.lemmas.Slice.Eq.{bytes_eq-Decides}
 use Rattle.std.specs.Str.{bytes_eq}
 use Rattle.line_words.specs.Numbers.{number_of}
 use Rattle.line_words.proofs.Decimals.{lacks, lacks_decimal, number_decimal, number_exact}
+use Rattle.line_words.proofs.Fronts.{before_stop, behind_stop}
+use Rattle.line_words.proofs.Splits.{IsNot, before_at, behind_at}
 use Rattle.timeline.specs.Words.{source_word}
 use Rattle.timeline.specs.declared.source.Source.{Source}
 use Rattle.timeline.specs.declared.source.Source.TheVariants.{Changes, Tap}
@@ -31,22 +33,6 @@ colon_between (c ∷ cs) r = by (eqb c 58) (colon_between cs r)
     by true k = refl
     by false k = k
 
-before_front : (w r : List ℕ) → lacks 58 w ≡ true → before_colon (w ++ 58 ∷ r) ≡ w
-before_front [] r h = refl
-before_front (c ∷ cs) r h = by (eqb c 58) h (λ k. before_front cs r k)
-  where
-    by : (q : Bool) → cond q false (lacks 58 cs) ≡ true → (lacks 58 cs ≡ true → before_colon (cs ++ 58 ∷ r) ≡ cs) → cond q [] (c ∷ before_colon (cs ++ 58 ∷ r)) ≡ c ∷ cs
-    by true k more = absurd cc
-    by false k more = ap (λ w. c ∷ w) (more k)
-
-behind_front : (w r : List ℕ) → lacks 58 w ≡ true → behind_colon (w ++ 58 ∷ r) ≡ r
-behind_front [] r h = refl
-behind_front (c ∷ cs) r h = by (eqb c 58) h (λ k. behind_front cs r k)
-  where
-    by : (q : Bool) → cond q false (lacks 58 cs) ≡ true → (lacks 58 cs ≡ true → behind_colon (cs ++ 58 ∷ r) ≡ r) → cond q (cs ++ 58 ∷ r) (behind_colon (cs ++ 58 ∷ r)) ≡ r
-    by true k more = absurd cc
-    by false k more = more k
-
 around_colon : (t : List ℕ) → has_colon t ≡ true → t ≡ before_colon t ++ 58 ∷ behind_colon t
 around_colon [] h = absurd cc
 around_colon (c ∷ cs) h = by (eqb c 58) refl h (λ k. around_colon cs k)
@@ -56,25 +42,24 @@ around_colon (c ∷ cs) h = by (eqb c 58) refl h (λ k. around_colon cs k)
     by false e k more = ap (λ ds. c ∷ ds) (more k)
 
 -- as it is found
-abbrev IsNot : ℕ → ℕ → Type 0
-IsNot other c = c ≢ other
 
 pub colon_none : (t : List ℕ) → All (IsNot 58) t → has_colon t ≡ false
 colon_none [] none = refl
 colon_none (c ∷ cs) none =
     cond-false _ _ _ (ne_eqb c 58 (All-head (IsNot 58) c cs none)) ∙ colon_none cs (All-tail (IsNot 58) c cs none)
 
+has_at : (t : List ℕ) (i : ℕ) → i < length t → get_or t i 0 ≡ 58 → has_colon t ≡ true
+has_at [] i inside here = absurd (omega arith)
+has_at (c ∷ cs) zero inside here = cond-true _ _ _ (eq-eqb c 58 here)
+has_at (c ∷ cs) (suc i) inside here = by (eqb c 58) (has_at cs i (omega arith) here)
+  where
+    by : (q : Bool) → has_colon cs ≡ true → cond q true (has_colon cs) ≡ true
+    by true k = refl
+    by false k = k
+
 pub colon_at : (t : List ℕ) (i : ℕ) → i < length t → get_or t i 0 ≡ 58 → ((k : ℕ) → k < i → get_or t k 0 ≢ 58)
     → (has_colon t ≡ true) × ((before_colon t ≡ take i t) × (behind_colon t ≡ drop (i + 1) t))
-colon_at [] i inside here before = absurd (omega arith)
-colon_at (c ∷ cs) zero inside here before =
-    let is = eq-eqb c 58 here in
-    (cond-true _ _ _ is, (cond-true _ _ _ is, cond-true _ _ _ is))
-colon_at (c ∷ cs) (suc i) inside here before =
-    let rest = colon_at cs i (omega arith) here (λ k lt. before (suc k) (omega arith)) in
-    let not = ne_eqb c 58 (before 0 (omega arith)) in
-    let next : suc i + 1 ≡ suc (i + 1) = omega arith in
-    (cond-false _ _ _ not ∙ rest.0, (cond-false _ _ _ not ∙ ap (λ w. c ∷ w) rest.1.0, rw next (cond-false _ _ _ not ∙ rest.1.1)))
+colon_at t i inside here before = (has_at t i inside here, (before_at 58 t i inside here before, behind_at 58 t i inside here before))
 
 -- ---- the word of a source
 
@@ -136,8 +121,8 @@ reads (Some s) n fits low =
     let lacks_it = word_lacks s fits in
     ap name_in (with_colon s n)
     ∙ cond-true _ _ _ (colon_between w (decimal n))
-    ∙ ap (λ v. in_source (source_in v) (number_of (behind_colon (w ++ 58 ∷ decimal n)))) (before_front w (decimal n) lacks_it)
-    ∙ ap (λ v. in_source (source_in w) (number_of v)) (behind_front w (decimal n) lacks_it)
+    ∙ ap (λ v. in_source (source_in v) (number_of (behind_colon (w ++ 58 ∷ decimal n)))) (before_stop 58 w (decimal n) lacks_it)
+    ∙ ap (λ v. in_source (source_in w) (number_of v)) (behind_stop 58 w (decimal n) lacks_it)
     ∙ ap (λ o. in_source o (number_of (decimal n))) (source_read s fits)
     ∙ ap (in_source (Some s)) (number_decimal n low)
 

@@ -1,5 +1,5 @@
 -- What is sought, read from names and marked by events.
-use Rattle.std.proofs.Common.{◌≡◌, ◌≢◌, ◌∙◌, ap, subst, sym, refl, ℕ, zero, suc, ◌+◌, ◌<◌, Bool, true, false, eqb, ◌||◌, List, [], ◌∷◌, ◌++◌, Bor, map, length, replicate, set, take, drop, get_or, Option, Some, None, MatchOption, ◌⊎◌, inl, inr, arith, append_assoc}
+use Rattle.std.proofs.Common.{◌≡◌, ◌≢◌, ◌∙◌, ap, subst, sym, refl, ℕ, zero, suc, ◌+◌, ◌<◌, Bool, true, false, eqb, ◌||◌, List, [], ◌∷◌, ◌++◌, Bor, map, length, replicate, set, take, drop, get_or, Option, Some, None, MatchOption, ◌⊎◌, inl, inr, arith, append-nil, append_assoc}
 use Rattle.std.proofs.lemmas.Bool.{cases_lt, eq-eqb, eqb-false, eqb-true, cond-true, cond-false}
 use Rattle.std.proofs.lemmas.List.{get_or-replicate, get_or-set_other, get_or-set_same, get_or_past, length-map, length-replicate, length-take, map_more}
 use Rattle.std.specs.Prelude.{Result, Ok, Err, not, option_map, ◌&&◌}
@@ -45,11 +45,7 @@ numbers_more n (suc k) =
 pub reasons_more : (i : ℕ) (names : List (List ℕ)) (name : List ℕ) → reasons_sought i (names ++ name ∷ []) ≡ reasons_sought i names ++ map (reason_at (i + length names)) (numbers_in (reasons_in name))
 reasons_more i [] name =
     let here : i ≡ i + 0 = omega arith in
-    nil_end _ ∙ ap (λ k. map (reason_at k) (numbers_in (reasons_in name))) here
-  where
-    nil_end : {X : Type 0} (xs : List X) → xs ++ [] ≡ xs
-    nil_end [] = refl
-    nil_end (x ∷ xs) = ap (λ ys. x ∷ ys) (nil_end xs)
+    append-nil _ ∙ ap (λ k. map (reason_at k) (numbers_in (reasons_in name))) here
 reasons_more i (n ∷ ns) name =
     let next : suc i + length ns ≡ i + suc (length ns) = omega arith in
     ap (λ rs. map (reason_at i) (numbers_in (reasons_in n)) ++ rs) (reasons_more (suc i) ns name)
@@ -59,11 +55,7 @@ reasons_more i (n ∷ ns) name =
 pub addresses_more : (i : ℕ) (names : List (List ℕ)) (name : List ℕ) → addresses_sought i (names ++ name ∷ []) ≡ addresses_sought i names ++ addresses_at (i + length names) (address_in name)
 addresses_more i [] name =
     let here : i ≡ i + 0 = omega arith in
-    nil_end _ ∙ ap (λ k. addresses_at k (address_in name)) here
-  where
-    nil_end : {X : Type 0} (xs : List X) → xs ++ [] ≡ xs
-    nil_end [] = refl
-    nil_end (x ∷ xs) = ap (λ ys. x ∷ ys) (nil_end xs)
+    append-nil _ ∙ ap (λ k. addresses_at k (address_in name)) here
 addresses_more i (n ∷ ns) name =
     let next : suc i + length ns ≡ i + suc (length ns) = omega arith in
     ap (λ rs. addresses_at i (address_in n) ++ rs) (addresses_more (suc i) ns name)
@@ -97,37 +89,31 @@ open_or : (a b : Bool) → (not a || b) ≡ false → (a ≡ true) × (b ≡ fal
 open_or true b h = (refl, h)
 open_or false b h = absurd cc
 
-pub reasons_closed : (d : Option Decision) (ks : List SoughtReason) → list_any (λ (k : SoughtReason). not k.is_met) ks ≡ false
-    → (list_any (is_new_reason d) ks ≡ false) × (map (reason_met d) ks ≡ ks)
-reasons_closed d [] none = (refl, refl)
-reasons_closed d (k ∷ ks) none =
-    let both = open_or k.is_met (list_any (λ (k : SoughtReason). not k.is_met) ks) none in
-    let rest = reasons_closed d ks both.1 in
-    (by k.is_met (list_any (is_new_reason d) ks) both.0 rest.0, λ i. same k both.0 i ∷ rest.1 i)
+-- of things that are met nothing is new, where meeting again changes none of them
+closed : {K : Type 0} (is_met has : K → Bool) (met : K → K) → ((k : K) → is_met k ≡ true → met k ≡ k) → (ks : List K)
+    → list_any (λ k. not (is_met k)) ks ≡ false → (list_any (λ k. not (is_met k) && has k) ks ≡ false) × (map met ks ≡ ks)
+closed is_met has met same [] none = (refl, refl)
+closed is_met has met same (k ∷ ks) none =
+    let both = open_or (is_met k) (list_any (λ k. not (is_met k)) ks) none in
+    let rest = closed is_met has met same ks both.1 in
+    (by (is_met k) (list_any (λ k. not (is_met k) && has k) ks) both.0 rest.0, λ i. same k both.0 i ∷ rest.1 i)
   where
-    by : (m r : Bool) → m ≡ true → r ≡ false → ((not m && has_reason d k) || r) ≡ false
+    by : (m r : Bool) → m ≡ true → r ≡ false → ((not m && has k) || r) ≡ false
     by true false is last = refl
     by true true is last = absurd cc
     by false r is last = absurd cc
 
-    same : (k : SoughtReason) → k.is_met ≡ true → reason_met d k ≡ k
-    same k is = ap (λ b. record k { is_met = b }) (ap (λ b. b || has_reason d k) is ∙ sym is)
+pub reasons_closed : (d : Option Decision) (ks : List SoughtReason) → list_any (λ (k : SoughtReason). not k.is_met) ks ≡ false
+    → (list_any (is_new_reason d) ks ≡ false) × (map (reason_met d) ks ≡ ks)
+reasons_closed d =
+    closed (λ (k : SoughtReason). k.is_met) (has_reason d) (reason_met d)
+    (λ k is. ap (λ b. record k { is_met = b }) (ap (λ b. b || has_reason d k) is ∙ sym is))
 
 pub addresses_closed : (p : Option Passing) (ks : List SoughtAddress) → list_any (λ (k : SoughtAddress). not k.is_met) ks ≡ false
     → (list_any (is_new_address p) ks ≡ false) × (map (address_met p) ks ≡ ks)
-addresses_closed p [] none = (refl, refl)
-addresses_closed p (k ∷ ks) none =
-    let both = open_or k.is_met (list_any (λ (k : SoughtAddress). not k.is_met) ks) none in
-    let rest = addresses_closed p ks both.1 in
-    (by k.is_met (list_any (is_new_address p) ks) both.0 rest.0, λ i. same k both.0 i ∷ rest.1 i)
-  where
-    by : (m r : Bool) → m ≡ true → r ≡ false → ((not m && has_address p k) || r) ≡ false
-    by true false is last = refl
-    by true true is last = absurd cc
-    by false r is last = absurd cc
-
-    same : (k : SoughtAddress) → k.is_met ≡ true → address_met p k ≡ k
-    same k is = ap (λ b. record k { is_met = b }) (ap (λ b. b || has_address p k) is ∙ sym is)
+addresses_closed p =
+    closed (λ (k : SoughtAddress). k.is_met) (has_address p) (address_met p)
+    (λ k is. ap (λ b. record k { is_met = b }) (ap (λ b. b || has_address p k) is ∙ sym is))
 
 -- ---- an event that has nothing
 

@@ -5,6 +5,7 @@ use Rattle.std.specs.List.{cons_option, list_any}
 use Rattle.std.specs.List.Sorted.{IsNonDecreasingBy}
 use Rattle.std.specs.Option.{option_map}
 use Rattle.line_words.specs.Numbers.{number_of}
+use Rattle.line_words.specs.Splits.{before_octet, behind_octet}
 use Rattle.timeline.specs.Words.{source_word}
 use Rattle.timeline.specs.declared.source.Source.{Source}
 use Rattle.timeline.specs.declared.source.Source.TheVariants.{Changes, Tap}
@@ -16,13 +17,11 @@ use Rattle.run_reports.specs.declared.asked.Asked.{Asked}
 
 -- what stands before the first colon, or all of it
 abbrev pub before_colon : List ℕ → List ℕ
-before_colon [] = []
-before_colon (c ∷ cs) = if c == 58 then [] else c ∷ before_colon cs
+before_colon text = before_octet 58 text
 
 -- what stands behind the first colon, or nothing
 abbrev pub behind_colon : List ℕ → List ℕ
-behind_colon [] = []
-behind_colon (c ∷ cs) = if c == 58 then cs else behind_colon cs
+behind_colon text = behind_octet 58 text
 
 -- a text has a colon
 abbrev pub has_colon : List ℕ → Bool

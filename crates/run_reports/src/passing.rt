@@ -4,10 +4,10 @@ ghost use Rattle.std.specs.Ordering.{eq_by_cmp};
 ghost use Rattle.filter_db.specs.Table.{mac_cmp};
 ghost use Rattle.endpoint_core.specs.Course.{CanLeave, decision_of};
 ghost use Rattle.endpoint_core.specs.Kept.{state_of};
-ghost use Rattle.event_story.specs.Story.{can_come, is_there};
 ghost use Rattle.run_reports.specs.Sought.{foreseen, passing_at, passing_by, passing_of, same_tap};
 
 use endpoint_core::{Course, Endpoint, Outlets};
+use event_story::can_come;
 use frame_view::{EtherView, Mac};
 use timeline::{Event, Happening, Tap};
 
@@ -105,22 +105,5 @@ pub fn foreseen<'a>(
             let (original, octets) = (captured.original, captured.octets);
             Some(endpoint.course_of_packet(event.moment, original, octets, places))
         }
-    }
-}
-
-/// Whether an event can come to an endpoint: it isn't before the last one, and it is at a port that is there.
-fn can_come(endpoint: &Endpoint, event: &Event) -> bool
-    ensures { result ≡ can_come (state_of endpoint.now) event.now }
-{
-    endpoint.now() <= event.moment && is_there(endpoint.ports(), &event.happening)
-}
-
-/// Whether there is such a port.
-fn is_there(ports: u8, happening: &Happening) -> bool
-    ensures { result ≡ is_there ports happening.now }
-{
-    match happening {
-        Happening::Record(Tap::Port(port), _) => 1 <= *port && *port <= ports,
-        _ => true,
     }
 }

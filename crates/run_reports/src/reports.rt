@@ -171,14 +171,7 @@ impl<'n, 'a> Reports<'n, 'a> {
         ensures { OnOk result (self.new ≡ tables_told self.old (state_of endpoint.now) moment) }
     {
         if is_before(self.due, moment) {
-            put_tables(
-                self.alloc,
-                &mut self.text,
-                endpoint,
-                self.segments,
-                self.due,
-            )?;
-            self.due = None;
+            self.tell_due(endpoint)?;
         }
         Ok(())
     }
@@ -218,7 +211,7 @@ impl<'n, 'a> Reports<'n, 'a> {
         Ok(())
     }
 
-    /// Tells the tables at the end, where their moment didn't come.
+    /// Tells the tables at their moment, where they weren't told yet.
     fn tell_due(&mut self, endpoint: &Endpoint) -> Result<(), AllocError>
         ensures { OnOk result (self.new ≡ due_told self.old (state_of endpoint.now)) }
     {

@@ -12,11 +12,13 @@ use Rattle.pcap_stream.specs.Supply.{GivesUp}
 use Rattle.pcap_stream.specs.declared.fault.SourceFault.{SourceFault}
 use Rattle.pcap_stream.specs.declared.fault.SourceFault.TheVariants as source
 use Rattle.pcap_stream.proofs.Runs.{ends, one_more}
+use Rattle.pcap_stream.proofs.Refusals.{faulty_end, lends_none}
 use Rattle.timeline.specs.Events.{greatest}
 use Rattle.timeline.specs.declared.source.Tap.{Tap}
 use Rattle.stream_run.specs.Fault.{fault_of}
-use Rattle.stream_run.specs.Fetched.{IsFetch, IsFetched, IsMoment, IsOpen}
+use Rattle.stream_run.specs.Fetched.{IsFetch, IsFetched, IsMoment, IsOpen, ReadsOne}
 use Rattle.stream_run.specs.Read.{StandsBehind, failures_of}
+use Rattle.stream_run.specs.declared.turn.Turn.{Turn}
 
 -- an open source read what comes next, or gave up
 read_on : (old new : Stream) (result : Result (Unit {0}) SourceFault) (s : Standing) → IsOpen s → IsFilledFrom s old new result
@@ -37,23 +39,6 @@ read_on old new result (Failed fault) is filled = absurd is
 
 -- ---- a fault
 
-lends_none : (s : Standing) (fault : SourceFault) → Err fault ≡ answer s → lent s ≡ None
-lends_none New fault is = absurd cc
-lends_none (Open style last) fault is = absurd cc
-lends_none (Ended is_cut) fault is = refl
-lends_none (Failed other) fault is = refl
-
--- an end with a fault is that of a record
-record Ends (end : End) (fault : SourceFault) : Type 0 where
-  pub own : RecordFault
-  pub end_is : end ≡ Faulty own
-  pub fault_is : fault ≡ record_fault own
-
-faulty_end : (end : End) (fault : SourceFault) → Err fault ≡ answer (after_end end) → Ends end fault
-faulty_end Whole fault is = absurd cc
-faulty_end Cut fault is = absurd cc
-faulty_end (Faulty own) fault is = record { own = own; end_is = refl; fault_is = cc }
-
 tells_fault : (octets : List ℕ) (rs : List Record) (tap : Tap) (new : Stream) (n : ℕ) (own : RecordFault) → opened octets ≡ Ok (record { records = rs; end = Faulty own }) → n ≡ length rs + 1
     → IsFetched octets rs tap new (Err (fault_of tap n (record_fault own)))
 tells_fault octets rs tap new n TooLarge whole is = (refl, record { whole = rs; reading = whole; number = is }, is)
@@ -70,38 +55,30 @@ fault_told octets rs tap old new n fault other reading filled told is =
     by_err : ◌≡◌ {A = Result (Unit {0}) SourceFault} (Err fault) (Err source.Read) → fault ≡ source.Read
     by_err e = cc
 
+-- one that is none of a read
+fetch_faulty : (old new : Stream) (tap : Tap) (done latest : ℕ) (fault : SourceFault) → fault ≢ source.Read
+    → ReadsOne {T = Turn} tap old new (Err (fault_of tap (done + 1) fault)) → IsFilled {T = Unit {0}} old new (Err fault)
+    → Err fault ≡ answer new.standing → IsFetch old new tap done latest (Err (fault_of tap (done + 1) fault))
+fetch_faulty old new tap done latest fault other reads filled told = record {
+  count = tt;
+  next = tt;
+  moment = λ le. tt;
+  reads = reads;
+  told = λ octets rs reading is later. fault_told octets rs tap old new (done + 1) fault other reading filled told (omega arith);
+}
+
 pub fetch_failed : (old new : Stream) (tap : Tap) (done latest : ℕ) (fault : SourceFault) → IsOpen old.standing → IsFilled {T = Unit {0}} old new (Err fault) → Err fault ≡ answer new.standing
     → IsFetch old new tap done latest (Err (fault_of tap (done + 1) fault))
 fetch_failed old new tap done latest source.Read ready filled told =
     record { count = tt; next = tt; moment = λ le. tt; reads = (refl, read_on old new (Err source.Read) old.standing ready filled); told = λ octets rs reading is later. refl }
-fetch_failed old new tap done latest source.NotPcap ready filled told = record {
-  count = tt;
-  next = tt;
-  moment = λ le. tt;
-  reads = read_on old new (Err source.NotPcap) old.standing ready filled;
-  told = λ octets rs reading is later. fault_told octets rs tap old new (done + 1) source.NotPcap (λ e. absurd cc) reading filled told (omega arith);
-}
-fetch_failed old new tap done latest source.BadLink ready filled told = record {
-  count = tt;
-  next = tt;
-  moment = λ le. tt;
-  reads = read_on old new (Err source.BadLink) old.standing ready filled;
-  told = λ octets rs reading is later. fault_told octets rs tap old new (done + 1) source.BadLink (λ e. absurd cc) reading filled told (omega arith);
-}
-fetch_failed old new tap done latest source.TooLarge ready filled told = record {
-  count = tt;
-  next = tt;
-  moment = λ le. tt;
-  reads = read_on old new (Err source.TooLarge) old.standing ready filled;
-  told = λ octets rs reading is later. fault_told octets rs tap old new (done + 1) source.TooLarge (λ e. absurd cc) reading filled told (omega arith);
-}
-fetch_failed old new tap done latest source.BadFraction ready filled told = record {
-  count = tt;
-  next = tt;
-  moment = λ le. tt;
-  reads = read_on old new (Err source.BadFraction) old.standing ready filled;
-  told = λ octets rs reading is later. fault_told octets rs tap old new (done + 1) source.BadFraction (λ e. absurd cc) reading filled told (omega arith);
-}
+fetch_failed old new tap done latest source.NotPcap ready filled told =
+    fetch_faulty old new tap done latest source.NotPcap (λ e. absurd cc) (read_on old new (Err source.NotPcap) old.standing ready filled) filled told
+fetch_failed old new tap done latest source.BadLink ready filled told =
+    fetch_faulty old new tap done latest source.BadLink (λ e. absurd cc) (read_on old new (Err source.BadLink) old.standing ready filled) filled told
+fetch_failed old new tap done latest source.TooLarge ready filled told =
+    fetch_faulty old new tap done latest source.TooLarge (λ e. absurd cc) (read_on old new (Err source.TooLarge) old.standing ready filled) filled told
+fetch_failed old new tap done latest source.BadFraction ready filled told =
+    fetch_faulty old new tap done latest source.BadFraction (λ e. absurd cc) (read_on old new (Err source.BadFraction) old.standing ready filled) filled told
 
 -- ---- a record, or the end
 

@@ -1,7 +1,7 @@
 -- Outputs that hand on what they hold back: the same texts stand.
 use Rattle.std.proofs.Common.{◌≡◌, ◌∙◌, refl, sym, ap, subst, ℕ, ◌<◌, ◌+◌, Bool, true, false, cond, List, [], length, map, get_or, slice_set, slice_index_or, arith, ◌-◌, Option, Result, Ok, Err, IsErr, MatchBool, inl}
 use Rattle.std.proofs.KnownBytes.{Appends-kept}
-use Rattle.std.proofs.lemmas.List.{get_or-set_same, get_or_default, set-get_or}
+use Rattle.std.proofs.lemmas.List.{get_or-set_same, set-get_or}
 use Rattle.std.specs.Prelude.{take}
 use Rattle.std.specs.Io.KnownBytes.{Keeps}
 use Rattle.pcap_stream.specs.Counts.{GoesOnBy}
@@ -24,7 +24,7 @@ use Rattle.stream_run.specs.Watched.{IsWatchedTake}
 use Rattle.stream_run.specs.declared.fault.Target.{Target}
 use Rattle.stream_run.specs.declared.fault.Target.TheVariants as targets
 use Rattle.stream_run.proofs.Amidst.{at_none, front_input, put_at_line}
-use Rattle.stream_run.proofs.Standing.{AreFronts, PortsLead, SinkLeads, fails_on, front_line, fronts_self, health_at, health_set, lead_behind, ports_set}
+use Rattle.stream_run.proofs.Standing.{AreFronts, PortsLead, SinkLeads, fails_on, front_line, fronts_self, health_set, lead_behind, one_healthy, one_stands, ports_set}
 
 -- ---- one output
 
@@ -64,25 +64,18 @@ module _ {T E : Type 0} where
   pub ports_handed : (start sinks : List Drain) (i : ℕ) (d new : Drain) (texts : List (List ℕ)) (result : Result T E) → i < length sinks
       → IsHandedOn (slice_index_or sinks i d) new result → PortsBetween start sinks texts texts → map health sinks ≡ map health start
       → PortsLead start (slice_set sinks i new) texts texts i result
-  ports_handed start sinks i d new texts result there handed at well = by result (λ x. sink_handed (slice_index_or start i x) (get_or sinks i d) new o result (one x) (same x) handed)
+  ports_handed start sinks i d new texts result there handed at well =
+      by result (λ x. sink_handed (slice_index_or start i x) (get_or sinks i d) new o result
+      (one_stands start sinks i d x texts there at) (one_healthy start sinks i d x texts there at well) handed)
     where
       o : List ℕ
       o = slice_index_or texts i []
-
-      any : (x : Drain) → get_or sinks i x ≡ get_or sinks i d
-      any x = get_or_default sinks i x d there
-
-      one : (x : Drain) → StandsBetween (slice_index_or start i x) (get_or sinks i d) o o
-      one x = subst (λ s. StandsBetween (slice_index_or start i x) s o o) (any x) (at.each x i (omega (arith, there, at.many)))
-
-      same : (x : Drain) → health (get_or sinks i d) ≡ health (slice_index_or start i x)
-      same x = sym (ap health (any x)) ∙ health_at start sinks i x there well at.many
 
       set_again : ((x : Drain) → StandsBetween (slice_index_or start i x) new o o) → PortsBetween start (slice_set sinks i new) texts texts
       set_again each = subst (λ l. PortsBetween start (slice_set sinks i new) l l) (set-get_or texts i []) (ports_set start sinks texts i new o o there at each)
 
       by : (result : Result T E) → ((x : Drain) → SinkLeads (slice_index_or start i x) new o o result) → PortsLead start (slice_set sinks i new) texts texts i result
-      by (Ok x) h = (set_again (λ x. (h x).0), health_set sinks i d new there ((h d).1 ∙ sym (same d)) ∙ well)
+      by (Ok x) h = (set_again (λ x. (h x).0), health_set sinks i d new there ((h d).1 ∙ sym (one_healthy start sinks i d d texts there at well)) ∙ well)
       by (Err e) h = (set_again (λ x. (h x).0), λ x. rw (get_or-set_same sinks i new x there) ((h x).1))
 
 -- ---- the outputs of a run

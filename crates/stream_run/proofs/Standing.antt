@@ -103,13 +103,24 @@ ports_set start old texts i x least most there at one = record {
         rw (get_or-set_other old i k x d apart, get_or-set_other texts i k least [] apart, get_or-set_other texts i k most [] apart) (at.each d k lt)
 
 -- of many the same health at one place
-pub health_at : (start old : List Drain) (i : ℕ) (d : Drain) → i < length old → map health old ≡ map health start → length old ≡ length start → health (get_or old i d) ≡ health (get_or start i d)
+health_at : (start old : List Drain) (i : ℕ) (d : Drain) → i < length old → map health old ≡ map health start → length old ≡ length start → health (get_or old i d) ≡ health (get_or start i d)
 health_at start old i d there same many =
     sym (get_or-map health old i d (health d) there) ∙ ap (λ l. slice_index_or l i (health d)) same ∙ get_or-map health start i d (health d) (omega (arith, there, many))
 
 pub health_set : (old : List Drain) (i : ℕ) (d x : Drain) → i < length old → health x ≡ health (get_or old i d) → map health (slice_set old i x) ≡ map health old
 health_set old i d x there same =
     map-set health old i x ∙ ap (slice_set (map health old) i) (same ∙ sym (get_or-map health old i d (health d) there)) ∙ set-get_or (map health old) i (health d)
+
+-- of many that hold texts the text and the health of one, whatever stands for it where there is none
+pub one_stands : (start sinks : List Drain) (i : ℕ) (d x : Drain) (texts : List (List ℕ)) → i < length sinks → PortsBetween start sinks texts texts
+    → StandsBetween (slice_index_or start i x) (get_or sinks i d) (slice_index_or texts i []) (slice_index_or texts i [])
+one_stands start sinks i d x texts there at =
+    subst (λ s. StandsBetween (slice_index_or start i x) s (slice_index_or texts i []) (slice_index_or texts i [])) (get_or_default sinks i x d there)
+    (at.each x i (omega (arith, there, at.many)))
+
+pub one_healthy : (start sinks : List Drain) (i : ℕ) (d x : Drain) (texts : List (List ℕ)) → i < length sinks → PortsBetween start sinks texts texts
+    → map health sinks ≡ map health start → health (get_or sinks i d) ≡ health (slice_index_or start i x)
+one_healthy start sinks i d x texts there at well = sym (ap health (get_or_default sinks i x d there)) ∙ health_at start sinks i x there well at.many
 
 module _ {T E : Type 0} where
   abbrev pub PortsLead : List Drain → List Drain → List (List ℕ) → List (List ℕ) → ℕ → Result T E → Type 0
@@ -119,23 +130,16 @@ module _ {T E : Type 0} where
   pub ports_put : (start sinks : List Drain) (i : ℕ) (d new : Drain) (texts : List (List ℕ)) (text : List ℕ) (result : Result T E) → i < length sinks
       → IsPut (slice_index_or sinks i d) new text result → PortsBetween start sinks texts texts → map health sinks ≡ map health start
       → PortsLead start (slice_set sinks i new) texts (slice_set texts i (slice_index_or texts i [] ++ text)) i result
-  ports_put start sinks i d new texts text result there put at well = by result (λ x. sink_put (slice_index_or start i x) (get_or sinks i d) new o text result (one x) (same x) put)
+  ports_put start sinks i d new texts text result there put at well =
+      by result (λ x. sink_put (slice_index_or start i x) (get_or sinks i d) new o text result
+      (one_stands start sinks i d x texts there at) (one_healthy start sinks i d x texts there at well) put)
     where
       o : List ℕ
       o = slice_index_or texts i []
 
-      any : (x : Drain) → get_or sinks i x ≡ get_or sinks i d
-      any x = get_or_default sinks i x d there
-
-      one : (x : Drain) → StandsBetween (slice_index_or start i x) (get_or sinks i d) o o
-      one x = subst (λ s. StandsBetween (slice_index_or start i x) s o o) (any x) (at.each x i (omega (arith, there, at.many)))
-
-      same : (x : Drain) → health (get_or sinks i d) ≡ health (slice_index_or start i x)
-      same x = sym (ap health (any x)) ∙ health_at start sinks i x there well at.many
-
       by : (result : Result T E) → ((x : Drain) → SinkLeads (slice_index_or start i x) new o (o ++ text) result)
           → PortsLead start (slice_set sinks i new) texts (slice_set texts i (o ++ text)) i result
-      by (Ok x) h = (ports_set start sinks texts i new (o ++ text) (o ++ text) there at (λ x. (h x).0), health_set sinks i d new there ((h d).1 ∙ sym (same d)) ∙ well)
+      by (Ok x) h = (ports_set start sinks texts i new (o ++ text) (o ++ text) there at (λ x. (h x).0), health_set sinks i d new there ((h d).1 ∙ sym (one_healthy start sinks i d d texts there at well)) ∙ well)
       by (Err e) h = (
         subst (λ l. PortsBetween start (slice_set sinks i new) l (slice_set texts i (o ++ text))) (set-get_or texts i []) (ports_set start sinks texts i new o (o ++ text) there at (λ x. (h x).0)),
         λ x. rw (get_or-set_same sinks i new x there) ((h x).1),

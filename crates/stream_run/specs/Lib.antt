@@ -16,6 +16,7 @@ pub mod Left
 pub mod Over
 pub mod Reached
 pub mod Watched
+pub mod Beside
 pub mod Done
 pub mod Upcoming
 pub mod Waiting

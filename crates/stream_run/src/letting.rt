@@ -3,7 +3,6 @@ ghost use Rattle.std.specs.Prelude.{◌≡◌, ◌≤◌, ◌<◌, ◌+◌, ◌^
 ghost use Rattle.pcap_io.specs.Record.{Record as ARecord, last_moment};
 ghost use Rattle.pcap_stream.specs.Source.{lent};
 ghost use Rattle.timeline.specs.declared.source.Tap.{Tap as ATap};
-ghost use Rattle.timeline.specs.declared.source.Tap.TheVariants.{Port as AtPort, Underlay as AtUnderlay};
 ghost use Rattle.endpoint_core.specs.Kept.{state_of};
 ghost use Rattle.stream_run.specs.Steps.{IsAt, IsNextEvent, moment_at, record_event, source_at};
 ghost use Rattle.stream_run.specs.Waiting.{IsOutBefore, IsOutOrAll};
@@ -19,40 +18,19 @@ use crate::watch::Watch;
 use pcap_stream::{Input, Output, Source};
 use timeline::{Captured, Event, Happening, Tap};
 
-/// The event of the record that a port's source lends.
+/// The event of the record that a source lends.
 #[inline(always)]
-fn frame_event<R: Input>(source: &Source<R>, port: u8, next: Next) -> Event<'_>
+fn event_of<R: Input>(source: &Source<R>, tap: Tap, next: Next) -> Event<'_>
     requires count { next.done + 1 < 2 ^ 64 }
     requires lent { IsSome (lent source.now.standing) }
-    ensures { (r : ARecord) → lent source.now.standing ≡ Some r → result ≡ record_event (AtPort port) next.done next.moment r }
+    ensures { (r : ARecord) → lent source.now.standing ≡ Some r → result ≡ record_event tap next.done next.moment r }
 {
     let record = source.head().unwrap();
     Event {
         moment: next.moment,
         number: next.done + 1,
         happening: Happening::Record(
-            Tap::Port(port),
-            Captured {
-                original: record.original,
-                octets: record.octets,
-            },
-        ),
-    }
-}
-
-/// The event of the record that the underlay's source lends.
-#[inline(always)]
-fn packet_event<R: Input>(source: &Source<R>, next: Next) -> Event<'_>
-    requires count { next.done + 1 < 2 ^ 64 }
-    requires lent { IsSome (lent source.now.standing) }
-    ensures { (r : ARecord) → lent source.now.standing ≡ Some r → result ≡ record_event AtUnderlay next.done next.moment r }
-{
-    let record = source.head().unwrap();
-    Event {
-        moment: next.moment,
-        number: next.done + 1,
-        happening: Happening::Record(
-            Tap::Underlay,
+            tap,
             Captured {
                 original: record.original,
                 octets: record.octets,
@@ -79,9 +57,10 @@ fn next_event<R: Input>(captures: &Captures<R>, next: Next) -> Event<'_>
         };
     }
     if next.index <= captures.ports.len() {
-        return frame_event(&captures.ports[next.index - 1], next.index as u8, next);
+        let tap = Tap::Port(next.index as u8);
+        return event_of(&captures.ports[next.index - 1], tap, next);
     }
-    packet_event(&captures.underlay, next)
+    event_of(&captures.underlay, Tap::Underlay, next)
 }
 
 /// Asks the sieve about the next event. Where it takes it in, the event is numbered and taken as [`take_and_hand_on`] does it;

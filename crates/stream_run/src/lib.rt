@@ -6,9 +6,9 @@
 //! captures come last. [`run_segments`] is a part of a run: of what comes to some segments, a
 //! [`SegmentSet`](segment_set::SegmentSet), with the numbers and the decisions of the whole. [`run_read`] is the same where the
 //! texts were read before, as [`ReadTexts`], and [`run_sieved`] the same of what a [`Sieve`] takes in; with [`TakesAll`] that
-//! is everything. A [`Watch`] looks on; with [`Unwatched`] nobody does. The parts of a run are [`open_capture`], [`fetch_at`],
-//! [`put_events`], [`put_line`], each source's [`Turn`], and the [`Taker`] that takes events, as far as a [`Part`] of the run
-//! tells them.
+//! is everything. A [`Watch`] looks on; with [`Unwatched`] nobody does, and with [`Beside`] two do. The parts of a run
+//! are [`open_capture`], [`fetch_at`], [`put_events`], [`put_line`], each source's [`Turn`], and the [`Taker`] that takes
+//! events, as far as a [`Part`] of the run tells them.
 //!
 //! Specs to read, in order: `specs/Over` (by the octets of the captures), `specs/Left` (by one list of events), `specs/Stage`,
 //! `specs/Amidst`, `specs/Reached`, `specs/Watched`, `specs/Waiting`, `specs/HandedOn`; the others serve the contracts of its
@@ -33,6 +33,7 @@
 #![tactic(auto)]
 
 mod begin;
+mod beside;
 mod captures;
 mod cuts;
 mod fault;
@@ -52,6 +53,7 @@ mod take;
 mod turn;
 mod watch;
 
+pub use beside::Beside;
 pub use captures::Captures;
 pub use fault::{StreamFault, Target};
 pub use fetch::fetch_at;

@@ -1,3 +1,2 @@
 pub mod Brought
 pub mod Counting
-pub mod Onlooking

@@ -33,3 +33,10 @@ talks_of seen = shown passed_with nothing 4096 (all_counts rank passed_with [] (
 pub record IsCounted (segments : Segments) (S : Settings) (cs : List Change) (es : List Event) (begun ended : Talkers) : Type 0 where
   pub none : begun ≡ no_talkers
   pub seen : FoldsTo Sees begun (sights segments cs (opened S) 0 es) ended
+
+-- behind such a run, of any events, the table shows what those events and their answers come to
+abbrev pub CountsRuns : Type 0
+CountsRuns =
+    (segments : Segments) (S : Settings) (cs : List Change) (es : List Event) (begun ended : Talkers)
+    → IsCounted segments S cs es begun ended
+    → ended.rows ≡ talks_of (sights segments cs (opened S) 0 es)

@@ -1,8 +1,8 @@
 //! Who talks to whom in the segments of an endpoint, counted as a run goes, as text for whom asks: for each segment who sent to
 //! whom, by addresses and places, how much, and from when to when.
 //!
-//! Use first: [`Talkers`] looks on while `stream_run` runs, and makes the text behind it; [`Beside`] puts it beside whoever else
-//! looks on.
+//! Use first: [`Talkers`] looks on while `stream_run` runs, and makes the text behind it; [`Beside`](stream_run::Beside) puts it
+//! beside whoever else looks on.
 //!
 //! Specs to read, in order: `specs/Run`, `specs/Talkers`, `specs/Lines`.
 //!
@@ -13,11 +13,9 @@
 //! answer. The table is made before the run, so no event asks for memory.
 #![tactic(auto)]
 
-mod beside;
 mod coming;
 pub mod laws;
 mod lines;
 mod talkers;
 
-pub use beside::Beside;
 pub use talkers::Talkers;

@@ -1,7 +1,7 @@
 //! The file of the decision lines as JSON objects.
 //!
-//! It is made anew when the first object is written, by one who looks on at a run: so where the texts are refused, or an output
-//! can't be opened, what stands in it is kept.
+//! It is made anew when the first block of objects goes out, by one who looks on at a run: so where the texts are refused, or an
+//! output can't be opened, what stands in it is kept.
 ghost use Rattle.std.specs.Prelude.{None};
 
 use crate::directions::LeavesOut;
@@ -9,7 +9,7 @@ use decision_objects::Objects;
 use overlay_config::TimedChange;
 use pcap_stream::{BlockOutput, StdOutput};
 use program_faults::{Failure, OutputFile, SystemFault};
-use program_files::path_of;
+use program_files::{OutputDevice, path_of};
 use std::alloc::AllocError;
 use std::fs::OpenOptions;
 use std::io::{self, ErrorKind, Write};
@@ -26,13 +26,14 @@ pub(crate) type ObjectsFile<'r, R> = BlockOutput<StdOutput<LateFile<'r, R>>>;
 /// Who writes the objects of a run into that file.
 pub(crate) type RunObjects<'r, 'c, R> = Objects<'c, ObjectsFile<'r, R>>;
 
-/// A file that is made anew when it is first written. It keeps what the system told of the last call that failed.
+/// A file that is made anew when it is first written.
 #[derive(Drop)]
 pub(crate) struct LateFile<'r, R: Files> {
     rt: &'r R,
     path: PathBuf,
-    file: Option<R::File>,
-    fault: Option<SystemFault>,
+    file: Option<OutputDevice<R::File>>,
+    /// What the system told of the last time that it couldn't be made.
+    unmade: Option<SystemFault>,
 }
 
 /// The objects' file of a folder, which isn't opened yet.
@@ -44,7 +45,7 @@ fn objects_file<'r, R: Files + AllocGlobal>(
         rt,
         path: path_of(rt.alloc(), folder, OutputFile::Objects)?,
         file: None,
-        fault: None,
+        unmade: None,
     };
     BlockOutput::new(rt.alloc(), StdOutput::new(file), BLOCK)
 }
@@ -96,7 +97,7 @@ pub(crate) fn finish_objects<R: Files, L: LeavesOut>(
     if is_handed_on && late.file().is_ok() {
         return Ok(());
     }
-    match late.fault {
+    match late.fault() {
         Some(fault) => Err(Failure::WriteFailed(OutputFile::Objects, fault)),
         None => Err(Failure::Write(OutputFile::Objects)),
     }
@@ -104,7 +105,7 @@ pub(crate) fn finish_objects<R: Files, L: LeavesOut>(
 
 impl<'r, R: Files> LateFile<'r, R> {
     /// The file, which is made anew where it wasn't yet.
-    fn file(&mut self) -> io::Result<&mut R::File> {
+    fn file(&mut self) -> io::Result<&mut OutputDevice<R::File>> {
         if self.file.is_none() {
             let opened = OpenOptions::new()
                 .write(true)
@@ -112,9 +113,9 @@ impl<'r, R: Files> LateFile<'r, R> {
                 .truncate(true)
                 .open(self.rt, self.path.as_path());
             match opened {
-                Ok(file) => self.file = Some(file),
+                Ok(file) => self.file = Some(OutputDevice::new(file)),
                 Err(error) => {
-                    self.fault = SystemFault::of(&error);
+                    self.unmade = SystemFault::of(&error);
                     return Err(error);
                 }
             }
@@ -124,24 +125,23 @@ impl<'r, R: Files> LateFile<'r, R> {
             None => Err(io::Error::from(ErrorKind::Other)),
         }
     }
+
+    /// What the system told of the last write that failed, or of a file that couldn't be made.
+    fn fault(&self) -> Option<SystemFault> {
+        match &self.file {
+            Some(file) => file.fault(),
+            None => self.unmade,
+        }
+    }
 }
 
 impl<'r, R: Files> Write for LateFile<'r, R> {
     ghost contents = { λ _. None };
 
     fn write(&mut self, octets: &[u8]) -> io::Result<usize> {
-        let written = match self.file() {
+        match self.file() {
             Ok(file) => file.write(octets),
-            Err(error) => return Err(error),
-        };
-        match written {
-            Ok(count) => Ok(count),
-            Err(error) => {
-                if error.kind() != ErrorKind::Interrupted {
-                    self.fault = SystemFault::of(&error);
-                }
-                Err(error)
-            }
+            Err(error) => Err(error),
         }
     }
 

@@ -5,11 +5,10 @@ ghost use Rattle.overlay_settings.specs.Rules.{EachBehind};
 
 use crate::directions::{LeavesOut, sieve_of, tell_left_out};
 use crate::nobody::Nobody;
-use crate::objects_file::{ObjectsFile, RunObjects, finish_objects, leave_objects, objects_of_run};
+use crate::objects_file::{RunObjects, finish_objects, leave_objects, objects_of_run};
 use crate::outbound::tell_outbound;
 use crate::progress::progress_of;
 use crate::told_texts::{Counted, print_told, tell_all};
-use decision_objects::Beside as BesideObjects;
 use overlay_config::TimedChange;
 use program_faults::Failure;
 use program_files::{Destination, FailedOutputs, Names};
@@ -22,10 +21,10 @@ use std::alloc::{AllocError, Global};
 use std::io::{Input, Write};
 use std::rt::Files;
 use std::time::Clock;
-use stream_run::{Sieve, TakesAll, Unwatched, Watch};
-use talkers::{Beside as BesideTalkers, Talkers};
+use stream_run::{Beside, Sieve, TakesAll, Unwatched, Watch};
+use talkers::Talkers;
 use text_calls::segments_of;
-use tunnel_traffic::{Beside, TunnelTraffic};
+use tunnel_traffic::TunnelTraffic;
 
 /// What is asked for of a run.
 #[derive(Clone, Copy)]
@@ -171,7 +170,7 @@ fn run_shown<
     let run = run_asked(rt, job, told, &mut sieve, &mut shown, failed);
     shown.finish();
     let BesideProgress { watch, .. } = shown;
-    let BesideObjects { objects, .. } = watch;
+    let Beside { other: objects, .. } = watch;
     match run {
         Ok(ran) => {
             let written = finish_objects(objects, &sieve, ran.cut.as_slice());
@@ -221,21 +220,30 @@ fn run_watched<
 {
     let asked = job.asked;
     let objects = objects_of_run(rt, job.folder, asked.json, told.unwrap_or(&[]))?;
-    let watch = BesideTalkers {
+    let watch = Beside {
         watch: Beside {
             watch: onlooker_of(rt.alloc(), asked, told.unwrap_or(&[]), job.segments)?,
-            tunnels: tunnels_of(rt.alloc(), asked)?,
+            other: tunnels_of(rt.alloc(), asked)?,
         },
-        talkers: talkers_of(rt.alloc(), asked)?,
+        other: talkers_of(rt.alloc(), asked)?,
     };
     let mut beside = shown_to(watch, objects, progress);
     let mut sieve = sieve;
     let run = run_asked(rt, job, told, &mut sieve, &mut beside, failed);
     beside.finish();
     let BesideProgress { watch, .. } = beside;
-    let BesideObjects { watch, objects } = watch;
-    let BesideTalkers { watch, talkers } = watch;
-    let Beside { watch, tunnels } = watch;
+    let Beside {
+        watch,
+        other: objects,
+    } = watch;
+    let Beside {
+        watch,
+        other: talkers,
+    } = watch;
+    let Beside {
+        watch,
+        other: tunnels,
+    } = watch;
     let Onlooker { reports, counts } = watch;
     let counted = Counted {
         counts,
@@ -267,9 +275,12 @@ fn shown_to<'r, 'c, R: Files, T>(
     watch: T,
     objects: Option<RunObjects<'r, 'c, R>>,
     progress: Option<Progress<'r, R>>,
-) -> BesideProgress<'r, BesideObjects<'c, T, ObjectsFile<'r, R>>, R> {
+) -> BesideProgress<'r, Beside<T, RunObjects<'r, 'c, R>>, R> {
     BesideProgress {
-        watch: BesideObjects { watch, objects },
+        watch: Beside {
+            watch,
+            other: objects,
+        },
         progress,
     }
 }

@@ -9,14 +9,11 @@ use Rattle.ip_udp_view.specs.Addr.{IsAddr}
 use Rattle.ip_udp_view.specs.declared.addr.Addr.{Addr}
 use Rattle.ip_udp_view.specs.declared.addr.Addr.TheVariants.{V4, V6}
 use Rattle.endpoint_core.specs.Text.{addr_text, grouped, hex_digit, ip4_text, ip6_text}
-use Rattle.line_words.proofs.Decimals.{lacks, lacks_decimal, lacks_more, number_decimal}
-use Rattle.tunnel_tables.specs.Address.{addr_of, back, byte_of, decimal_octet, front, hex_value, ip4_of}
-use Rattle.tunnel_tables.proofs.Cuts.{back_front, front_front}
+use Rattle.line_words.proofs.Decimals.{lacks, lacks_decimal, lacks_more, octet_decimal}
+use Rattle.line_words.proofs.Fronts.{before_stop, behind_stop}
+use Rattle.tunnel_tables.specs.Address.{addr_of, back, decimal_octet, front, hex_value, ip4_of}
 
 -- ---- digits
-
-octet_back : (n : ℕ) → n < 256 → decimal_octet (decimal n) ≡ Some n
-octet_back n low = ap (option_and_then byte_of) (number_decimal n (omega (arith, low))) ∙ cond-true _ _ _ (lt-ltb n 256 low)
 
 hex_back : (d : ℕ) → d < 16 → hex_value (hex_digit d) ≡ d
 hex_back d low = by (cases_lt d 10)
@@ -60,13 +57,13 @@ module _ (a b c d : ℕ) (la : a < 256) (lb : b < 256) (lc : c < 256) (ld : d < 
 
   ip4_back : ip4_of whole ≡ Some (V4 (a ∷ b ∷ c ∷ d ∷ []))
   ip4_back =
-      let one : back 46 whole ≡ second = back_front 46 (decimal a) second (no_dot a la) in
-      let two : back 46 (back 46 whole) ≡ third = ap (back 46) one ∙ back_front 46 (decimal b) third (no_dot b lb) in
-      let three : back 46 (back 46 (back 46 whole)) ≡ decimal d = ap (back 46) two ∙ back_front 46 (decimal c) (decimal d) (no_dot c lc) in
-      let ra : decimal_octet (front 46 whole) ≡ Some a = ap decimal_octet (front_front 46 (decimal a) second (no_dot a la)) ∙ octet_back a la in
-      let rb : decimal_octet (front 46 (back 46 whole)) ≡ Some b = ap (λ l. decimal_octet (front 46 l)) one ∙ ap decimal_octet (front_front 46 (decimal b) third (no_dot b lb)) ∙ octet_back b lb in
-      let rc : decimal_octet (front 46 (back 46 (back 46 whole))) ≡ Some c = ap (λ l. decimal_octet (front 46 l)) two ∙ ap decimal_octet (front_front 46 (decimal c) (decimal d) (no_dot c lc)) ∙ octet_back c lc in
-      let rd : decimal_octet (back 46 (back 46 (back 46 whole))) ≡ Some d = ap decimal_octet three ∙ octet_back d ld in
+      let one : back 46 whole ≡ second = behind_stop 46 (decimal a) second (no_dot a la) in
+      let two : back 46 (back 46 whole) ≡ third = ap (back 46) one ∙ behind_stop 46 (decimal b) third (no_dot b lb) in
+      let three : back 46 (back 46 (back 46 whole)) ≡ decimal d = ap (back 46) two ∙ behind_stop 46 (decimal c) (decimal d) (no_dot c lc) in
+      let ra : decimal_octet (front 46 whole) ≡ Some a = ap decimal_octet (before_stop 46 (decimal a) second (no_dot a la)) ∙ octet_decimal a la in
+      let rb : decimal_octet (front 46 (back 46 whole)) ≡ Some b = ap (λ l. decimal_octet (front 46 l)) one ∙ ap decimal_octet (before_stop 46 (decimal b) third (no_dot b lb)) ∙ octet_decimal b lb in
+      let rc : decimal_octet (front 46 (back 46 (back 46 whole))) ≡ Some c = ap (λ l. decimal_octet (front 46 l)) two ∙ ap decimal_octet (before_stop 46 (decimal c) (decimal d) (no_dot c lc)) ∙ octet_decimal c lc in
+      let rd : decimal_octet (back 46 (back 46 (back 46 whole))) ≡ Some d = ap decimal_octet three ∙ octet_decimal d ld in
       λ i. option_and_then (λ w. option_and_then (λ x. option_and_then (λ y. option_and_then (λ z. Some (V4 (w ∷ x ∷ y ∷ z ∷ []))) (rd i)) (rc i)) (rb i)) (ra i)
 
   ip4_read : addr_of whole ≡ Some (V4 (a ∷ b ∷ c ∷ d ∷ []))

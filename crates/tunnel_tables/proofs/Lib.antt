@@ -1,5 +1,3 @@
-pub mod Cuts
-pub mod Telling
 pub mod Addresses
 pub mod Filling
 pub mod Kept

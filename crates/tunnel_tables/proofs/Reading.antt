@@ -14,8 +14,9 @@ use Rattle.vxlan_head.specs.Vxlan.{IsVni}
 use Rattle.endpoint_core.specs.Text.{addr_text, kind_text}
 use Rattle.line_words.specs.Numbers.{number_of}
 use Rattle.line_words.specs.Words.{behind, word}
-use Rattle.line_words.proofs.Decimals.{IsNoDigit, lacks, lacks_decimal, lacks_more, number_decimal}
+use Rattle.line_words.proofs.Decimals.{IsWord, join, lacks, lacks_more, number_decimal, number_word}
 use Rattle.line_words.proofs.Fronts.{behind_front, word_front}
+use Rattle.line_words.proofs.Telling.{Tells, tells_all, tells_as, tells_each, tells_more, tells_none}
 use Rattle.traffic_rows.specs.declared.key.TunnelKey.{TunnelKey}
 use Rattle.traffic_rows.specs.declared.rows.TrafficRow.{TrafficRow}
 use Rattle.traffic_rows.specs.declared.traffic.Traffic.{Traffic}
@@ -24,10 +25,8 @@ use Rattle.tunnel_tables.specs.Tables.{Tunnels, endpoint_key, no_tunnels}
 use Rattle.tunnel_tables.specs.Address.{addr_of}
 use Rattle.tunnel_tables.specs.Tables.{ArePackets, IsEndpoint, IsNetwork, IsRow, IsTold, IsTraffic}
 use Rattle.tunnel_tables.specs.Rows.{endpoint_of, flows_in, remote_in, row_in, rows_of, told_by, unknown_by, unknown_in, unknown_of, vni_numbered, vni_of}
-use Rattle.tunnel_tables.specs.declared.row.Row.{Row}
 use Rattle.tunnel_tables.specs.declared.row.Row.TheVariants.{Unknown, UnknownOthers, Remote, RemoteOthers}
 use Rattle.tunnel_tables.proofs.Addresses.{IsOutside, addr_back, lacks_addr}
-use Rattle.tunnel_tables.proofs.Telling.{Tells, tells_all, tells_each, tells_line, tells_more, tells_none}
 use Rattle.tunnel_tables.proofs.Filling.{remote_others_row, remote_row, rows_told, told_back, unknown_others_row, unknown_row}
 
 -- ---- words
@@ -37,20 +36,6 @@ feed = record { low = omega arith }
 
 space : IsOutside 32
 space = record { low = omega arith }
-
-no_digit_feed : IsNoDigit 10
-no_digit_feed d low = λ is. absurd (omega (arith, is))
-
-no_digit_space : IsNoDigit 32
-no_digit_space d low = λ is. absurd (omega (arith, is))
-
--- neither a line feed nor a space is in it
-record IsWord (w : List ℕ) : Type 0 where
-  line : lacks 10 w ≡ true
-  space : lacks 32 w ≡ true
-
-number_word : (n : ℕ) → n < 2 ^ 64 → IsWord (decimal n)
-number_word n fits = record { line = lacks_decimal 10 n no_digit_feed fits; space = lacks_decimal 32 n no_digit_space fits }
 
 addr_word : (a : Addr) → IsAddr a → IsWord (addr_text a)
 addr_word a is = record { line = lacks_addr 10 feed a is; space = lacks_addr 32 space a is }
@@ -63,13 +48,6 @@ kind_word Geneve = record { line = refl; space = refl }
 endpoint_word : (kind : Tunnel) (w : List ℕ) → IsWord w → IsWord (kind_text kind ++ w)
 endpoint_word Vxlan w is = record { line = lacks_more 10 (codes "vxlan:") w refl is.line; space = lacks_more 32 (codes "vxlan:") w refl is.space }
 endpoint_word Geneve w is = record { line = lacks_more 10 (codes "geneve:") w refl is.line; space = lacks_more 32 (codes "geneve:") w refl is.space }
-
-join : (a b : List ℕ) → lacks 10 a ≡ true → lacks 10 b ≡ true → lacks 10 (a ++ 32 ∷ b) ≡ true
-join a b first second = lacks_more 10 a (32 ∷ b) first second
-
--- the same text, put otherwise
-tells_as : (text body : List ℕ) (row : Row) → text ≡ body ++ 10 ∷ [] → lacks 10 body ≡ true → row_in body ≡ Some row → Tells text (row ∷ [])
-tells_as text body row is whole told = subst (λ l. Tells l (row ∷ [])) (sym is) (tells_line body row whole told)
 
 -- ---- networks that no segment has
 
@@ -111,7 +89,7 @@ flat_unknown : (a k v f w n : List ℕ) → (a ++ 32 ∷ []) ++ k ++ (32 ∷ [])
     ≡ (a ++ 32 ∷ (k ++ 32 ∷ (v ++ 32 ∷ (f ++ 32 ∷ (w ++ 32 ∷ n))))) ++ 10 ∷ []
 flat_unknown a k v f w n = simp append_assoc refl
 
-tells_unknown : (row : TrafficRow) → IsRow IsNetwork ArePackets row → Tells (unknown_line row) (unknown_row row)
+tells_unknown : (row : TrafficRow) → IsRow IsNetwork ArePackets row → Tells row_in (unknown_line row) (unknown_row row)
 unfolding unknown_line
 tells_unknown row is =
     let key = row.key in
@@ -131,11 +109,11 @@ further_told : (count : ℕ) → count < 2 ^ 64 → row_in (codes "unknown other
 unfolding row_in
 further_told count fits = ap (option_and_then (λ n. Some (UnknownOthers n))) (number_decimal count fits)
 
-tells_further : (others : Traffic) → others.came < 2 ^ 64 → Tells (unknown_others others) (unknown_others_row others)
+tells_further : (others : Traffic) → others.came < 2 ^ 64 → Tells row_in (unknown_others others) (unknown_others_row others)
 unfolding unknown_others
 tells_further others fits = by (others.came == 0)
   where
-    by : (b : Bool) → Tells (cond b [] (codes "unknown others " ++ decimal others.came ++ 10 ∷ [])) (cond b [] (UnknownOthers others.came ∷ []))
+    by : (b : Bool) → Tells row_in (cond b [] (codes "unknown others " ++ decimal others.came ++ 10 ∷ [])) (cond b [] (UnknownOthers others.came ∷ []))
     by true = tells_none
     by false =
         tells_as _ _ (UnknownOthers others.came) refl
@@ -211,7 +189,7 @@ flat_remote : (r k w d a b e l m : List ℕ) → (r ++ 32 ∷ []) ++ k ++ w ++ (
     ≡ (r ++ 32 ∷ ((k ++ w) ++ 32 ∷ (d ++ 32 ∷ (a ++ 32 ∷ (b ++ 32 ∷ (e ++ 32 ∷ (l ++ 32 ∷ m))))))) ++ 10 ∷ []
 flat_remote r k w d a b e l m = simp append_assoc refl
 
-tells_remote : (row : TrafficRow) → IsRow IsEndpoint IsTraffic row → Tells (remote_line row) (remote_row row)
+tells_remote : (row : TrafficRow) → IsRow IsEndpoint IsTraffic row → Tells row_in (remote_line row) (remote_row row)
 unfolding remote_line
 tells_remote row is =
     let kind = row.key.kind in
@@ -219,7 +197,7 @@ tells_remote row is =
     let t = row.traffic in
     let w = endpoint_word kind (addr_text a) (addr_word a is.key.address) in
     let same : endpoint_key kind a ≡ row.key = λ i. record { kind = kind; vni = sym is.key.network i; address = a } in
-    subst (λ key. Tells (remote_line row) (Remote key t ∷ [])) same
+    subst (λ key. Tells row_in (remote_line row) (Remote key t ∷ [])) same
     (tells_as (remote_line row) (codes "remote" ++ 32 ∷ ((kind_text kind ++ addr_text a) ++ 32 ∷ flows_words t)) (Remote (endpoint_key kind a) t)
     (flat_remote (codes "remote") (kind_text kind) (addr_text a) (codes "in") (decimal t.came) (decimal t.came_octets) (codes "out") (decimal t.left) (decimal t.left_octets))
     (join (codes "remote") ((kind_text kind ++ addr_text a) ++ 32 ∷ flows_words t) refl (join (kind_text kind ++ addr_text a) (flows_words t) w.line (flows_line t is.count)))
@@ -229,11 +207,11 @@ others_told : (t : Traffic) → IsTraffic t → row_in (codes "remote others" ++
 unfolding row_in
 others_told t is = ap (option_and_then (λ traffic. Some (RemoteOthers traffic))) (flows_back t is)
 
-tells_others : (others : Traffic) → IsTraffic others → Tells (remote_others others) (remote_others_row others)
+tells_others : (others : Traffic) → IsTraffic others → Tells row_in (remote_others others) (remote_others_row others)
 unfolding remote_others
 tells_others others is = by ((others.came == 0) && (others.left == 0))
   where
-    by : (b : Bool) → Tells (cond b [] (codes "remote others" ++ flows_text others)) (cond b [] (RemoteOthers others ∷ []))
+    by : (b : Bool) → Tells row_in (cond b [] (codes "remote others" ++ flows_text others)) (cond b [] (RemoteOthers others ∷ []))
     by true = tells_none
     by false =
         tells_as _ _ (RemoteOthers others)
@@ -242,7 +220,7 @@ tells_others others is = by ((others.came == 0) && (others.left == 0))
 
 -- ---- all of it
 
-tells_told : (t : Tunnels) → IsTold t → Tells (tunnels_text t) (rows_told t)
+tells_told : (t : Tunnels) → IsTold t → Tells row_in (tunnels_text t) (rows_told t)
 tells_told t is =
     tells_more _ _ _ _
     (tells_more _ _ _ _

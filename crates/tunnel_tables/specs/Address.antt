@@ -2,34 +2,26 @@
 -- again. It states no standard.
 --     front, back      what stands before the first such character, and behind it
 --     addr_of      four decimals between points, or eight groups of four hexadecimal digits between colons
-use Rattle.std.specs.Prelude.{ℕ, ◌+◌, ◌-◌, ◌*◌, ◌%◌, ◌==◌, nat_lt, if◌then◌else◌, List, [], ◌∷◌, length, Option, Some, None}
+use Rattle.std.specs.Prelude.{ℕ, ◌+◌, ◌-◌, ◌*◌, ◌%◌, ◌==◌, nat_lt, if◌then◌else◌, List, [], ◌∷◌, length, Option, Some}
 use Rattle.std.specs.Option.{option_and_then}
 use Rattle.header_octets.specs.Octets.{octet}
 use Rattle.ip_udp_view.specs.declared.addr.Addr.{Addr}
 use Rattle.ip_udp_view.specs.declared.addr.Addr.TheVariants.{V4, V6}
-use Rattle.line_words.specs.Numbers.{number_of}
+use Rattle.line_words.specs.Splits.{before_octet, behind_octet}
+-- a number of 8 bits, and that which a text writes
+pub use Rattle.line_words.specs.Numbers.{byte_of, octet_of as decimal_octet}
 
 -- ---- parts of a word
 
 -- what stands before the first such character, or all of it
 abbrev pub front : ℕ → List ℕ → List ℕ
-front s [] = []
-front s (c ∷ cs) = if c == s then [] else c ∷ front s cs
+front s text = before_octet s text
 
 -- what stands behind it, or nothing
 abbrev pub back : ℕ → List ℕ → List ℕ
-back s [] = []
-back s (c ∷ cs) = if c == s then cs else back s cs
+back s text = behind_octet s text
 
 -- ---- digits
-
--- a number of 8 bits
-abbrev pub byte_of : ℕ → Option ℕ
-byte_of number = if nat_lt number 256 then Some number else None
-
--- that of a text
-abbrev pub decimal_octet : List ℕ → Option ℕ
-decimal_octet text = option_and_then byte_of (number_of text)
 
 -- what a character is worth, '0' to '9' and 'a' to 'f'
 abbrev pub hex_value : ℕ → ℕ

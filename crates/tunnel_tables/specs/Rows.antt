@@ -3,12 +3,14 @@
 --     rows_of      the lines of a text, in order
 --     with_row, told_by      what was counted behind what a line tells, and behind many
 -- A line is read here by its words alone: whether it is written as it has to be is seen where all of them are written again.
-use Rattle.std.specs.Prelude.{ℕ, ◌^◌, ◌==◌, nat_lt, if◌then◌else◌, List, [], ◌∷◌, ◌++◌, codes, Option, Some, None}
-use Rattle.std.specs.Option.{option_and_then, option_to_list}
+use Rattle.std.specs.Prelude.{ℕ, ◌^◌, nat_lt, if◌then◌else◌, List, [], ◌∷◌, codes, Option, Some, None}
+use Rattle.std.specs.List.{filter_map}
+use Rattle.std.specs.Option.{option_and_then}
 use Rattle.header_octets.specs.Octets.{is_same}
 use Rattle.ip_udp_view.specs.declared.addr.Tunnel.{Tunnel}
 use Rattle.ip_udp_view.specs.declared.addr.Tunnel.TheVariants.{Vxlan, Geneve}
 use Rattle.line_words.specs.Words.{word, behind}
+use Rattle.line_words.specs.Lines.{whole_lines}
 use Rattle.line_words.specs.Numbers.{number_of}
 use Rattle.traffic_rows.specs.Rows.{counted, with_others}
 use Rattle.traffic_rows.specs.declared.key.TunnelKey.{TunnelKey}
@@ -80,14 +82,9 @@ row_in line =
     else if is_same (word line) (codes "remote") then remote_in (behind line)
     else None
 
--- those of a text, behind the begin of a line
-abbrev pub rows_from : List ℕ → List ℕ → List Row
-rows_from line [] = []
-rows_from line (c ∷ cs) = if c == 10 then option_to_list (row_in line) ++ rows_from [] cs else rows_from (line ++ c ∷ []) cs
-
--- those of a whole text
+-- those of a text
 abbrev pub rows_of : List ℕ → List Row
-rows_of text = rows_from [] text
+rows_of text = filter_map row_in (whole_lines text)
 
 -- ---- what was counted
 

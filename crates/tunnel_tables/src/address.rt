@@ -1,9 +1,9 @@
 //! Addresses in a line.
 ghost use Rattle.std.specs.Prelude.{◌≡◌, ◌<◌, ◌+◌, length};
-ghost use Rattle.tunnel_tables.specs.Address.{addr_of, back, byte_of, decimal_octet, front, hex_value, ip4_of, ip6_of, pair_at};
+ghost use Rattle.tunnel_tables.specs.Address.{addr_of, hex_value, ip4_of, ip6_of, pair_at};
 
 use ip_udp_view::Addr;
-use line_words::{first_place, number_of};
+use line_words::{octet_of, split_at_first};
 
 /// How many characters eight groups and the colons between them have.
 const GROUPS: usize = 39;
@@ -24,13 +24,13 @@ pub fn addr_of(text: &[u8]) -> Option<Addr>
 fn ip4_of(text: &[u8]) -> Option<Addr>
     ensures { result ≡ ip4_of text.now }
 {
-    let (first, behind) = cut(b'.', text);
-    let (second, behind) = cut(b'.', behind);
-    let (third, fourth) = cut(b'.', behind);
-    let a = decimal_octet(first)?;
-    let b = decimal_octet(second)?;
-    let c = decimal_octet(third)?;
-    let d = decimal_octet(fourth)?;
+    let (first, behind) = split_at_first(b'.', text);
+    let (second, behind) = split_at_first(b'.', behind);
+    let (third, fourth) = split_at_first(b'.', behind);
+    let a = octet_of(first)?;
+    let b = octet_of(second)?;
+    let c = octet_of(third)?;
+    let d = octet_of(fourth)?;
     Some(Addr::V4([a, b, c, d]))
 }
 
@@ -57,36 +57,6 @@ fn ip6_of(text: &[u8]) -> Addr
         pair_at(35, text),
         pair_at(37, text),
     ])
-}
-
-/// What stands before the first such octet, and what behind it; the whole text and nothing where there is none.
-pub fn cut(octet: u8, text: &[u8]) -> (&[u8], &[u8])
-    ensures front { result.0.now ≡ front octet text.now }
-    ensures back { result.1.now ≡ back octet text.now }
-{
-    match first_place(octet, text, 0) {
-        Some(at) => (&text[..at], &text[at + 1..]),
-        None => (text, &[]),
-    }
-}
-
-/// A decimal of 0 to 255.
-fn decimal_octet(text: &[u8]) -> Option<u8>
-    ensures { result ≡ decimal_octet text.now }
-{
-    let number = number_of(text)?;
-    byte_of(number)
-}
-
-/// A number below 256, as such.
-fn byte_of(number: u64) -> Option<u8>
-    ensures { result ≡ byte_of number }
-{
-    if number < 256 {
-        Some(number as u8)
-    } else {
-        None
-    }
 }
 
 /// The octet that two characters write, from this one on.

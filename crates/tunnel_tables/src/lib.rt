@@ -16,10 +16,8 @@
 #![tactic(auto)]
 
 mod address;
-mod difference;
 mod fault;
 pub mod laws;
-mod line;
 mod lines;
 mod parting;
 mod row;

@@ -4,9 +4,9 @@ ghost use Rattle.tunnel_tables.specs.Tables.{endpoint_key};
 ghost use Rattle.tunnel_tables.specs.Rows.{flows_in, endpoint_of, kind_of, remote_in, row_in};
 ghost use Rattle.tunnel_tables.specs.Rows.{unknown_by, unknown_in, unknown_of, vni_of, vni_numbered};
 
-use crate::address::{addr_of, cut};
+use crate::address::addr_of;
 use ip_udp_view::{Addr, Tunnel};
-use line_words::{behind_word, first_word, number_of};
+use line_words::{behind_word, first_word, number_of, split_at_first};
 use traffic_rows::{Traffic, TunnelKey};
 use vxlan_head::Vni;
 
@@ -106,7 +106,7 @@ fn flows_in(words: &[u8]) -> Option<Traffic>
 fn endpoint_of(word: &[u8]) -> Option<TunnelKey>
     ensures { result ≡ endpoint_of word.now }
 {
-    let (kind, address) = cut(b':', word);
+    let (kind, address) = split_at_first(b':', word);
     let kind = kind_of(kind)?;
     let address = addr_of(address)?;
     Some(all_networks(kind, address))

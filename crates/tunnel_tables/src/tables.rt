@@ -5,11 +5,10 @@ ghost use Rattle.tunnel_tables.specs.Rows.{rows_of, told_by, with_row};
 ghost use Rattle.tunnel_tables.specs.Tables.{IsTold, Tunnels, both, no_tunnels, packets_of};
 ghost use Rattle.tunnel_tables.specs.declared.fault.TrafficFault.TheVariants.{OutOfMemory};
 
-use crate::difference::first_difference;
 use crate::fault::TrafficFault;
-use crate::line::next_line;
 use crate::lines::put_tunnels;
 use crate::row::{Row, row_in};
+use line_words::{first_difference, next_line};
 use std::alloc::{AllocError, Global};
 use std::marker::Model;
 use traffic_rows::{Traffic, TrafficRows};

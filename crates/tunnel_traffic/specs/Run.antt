@@ -40,3 +40,10 @@ tunnels_of seen = record {
 pub record IsCounted (segments : Segments) (S : Settings) (cs : List Change) (es : List Event) (begun ended : Tunnels) : Type 0 where
   pub none : begun ≡ no_tunnels
   pub seen : FoldsTo Sees begun (sights segments cs (opened S) 0 es) ended
+
+-- behind such a run, of any events, the tables show what those events and their answers come to
+abbrev pub CountsRuns : Type 0
+CountsRuns =
+    (segments : Segments) (S : Settings) (cs : List Change) (es : List Event) (begun ended : Tunnels)
+    → IsCounted segments S cs es begun ended
+    → ended ≡ tunnels_of (sights segments cs (opened S) 0 es)

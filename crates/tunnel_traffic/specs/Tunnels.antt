@@ -124,10 +124,3 @@ SeesReply old d None new = new ≡ old
 -- the same of what was seen
 abbrev pub Sees : Tunnels → Sight → Tunnels → Type 0
 Sees old s new = SeesReply old (record { state = s.state; number = s.number; event = s.event }) s.reply new
-
--- where someone counts, this leaves what was counted, and nobody begins to
-abbrev pub Counting : (Tunnels → Tunnels → Type 0) → Option Tunnels → Option Tunnels → Type 0
-Counting step (Some old) (Some new) = step old new
-Counting step (Some old) None = ⊥
-Counting step None (Some new) = ⊥
-Counting step None None = Unit {0}

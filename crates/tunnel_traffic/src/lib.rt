@@ -2,8 +2,8 @@
 //! packets that were taken in from it and sent to it, and for each network that no segment has, and each sender, the packets
 //! that were dropped.
 //!
-//! Use first: [`TunnelTraffic`] looks on while `stream_run` runs, and makes the text behind it; [`Beside`] puts it beside whoever
-//! else looks on.
+//! Use first: [`TunnelTraffic`] looks on while `stream_run` runs, and makes the text behind it;
+//! [`Beside`](stream_run::Beside) puts it beside whoever else looks on.
 //!
 //! Specs to read, in order: `specs/Header`, `specs/Run`, `specs/Tunnels`, and `specs/Lines` of `tunnel_tables`.
 //!
@@ -14,12 +14,10 @@
 //! Why it is so: the tables are made before the run, so no event asks for memory.
 #![tactic(auto)]
 
-mod beside;
 mod header;
 pub mod laws;
 mod tables;
 mod tunnels;
 
-pub use beside::Beside;
 pub use header::key_in;
 pub use tunnels::TunnelTraffic;

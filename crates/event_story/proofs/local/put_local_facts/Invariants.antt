@@ -1,10 +1,10 @@
 use Rattle.std.proofs.Common.{◌≡◌, ◌++◌, drop}
-use Rattle.event_story.specs.Local.{local_fact}
+use Rattle.event_story.specs.Local.{local_fact, local_tests}
 use Rattle.event_story.specs.Tests.{refusal_of, told}
-use Rattle.event_story.proofs.local.put_tests.Given as goal
+use Rattle.event_story.proofs.local.put_local_facts.Given as goal
 
 -- with what the tests that are left saw put too, it is all
 abbrev pub invariant-loop-test : goal.invariant-loop-test
 invariant-loop-test l =
     let saw = told (local_fact l.ports l.port l.original l.octets l.came) (refusal_of l.came) in
-    l.facts.items ++ saw (drop l.test-index l.tests) ≡ l.fn.facts.items ++ saw l.tests
+    l.facts.items ++ saw (drop l.test-index l.test-items) ≡ l.fn.facts.items ++ saw local_tests

@@ -1,6 +1,6 @@
 use Rattle.std.proofs.Common.{List, Option, ℕ, subst}
 use Rattle.std.specs.Io.KnownBytes.{Keeps}
-use Rattle.program_files.proofs.outputs.Outputs.hand_on_all.Goals as goal
+use Rattle.program_files.proofs.outputs.Outputs.finish.Goals as goal
 
 pub returns-in-Some-clause-underlay : goal.returns-in-Some-clause-underlay
 returns-in-Some-clause-underlay g c = c.hand_on-underlay_stands.ensures.all c.if-not-underlay_stands.false

@@ -25,6 +25,7 @@ use Rattle.line_words.specs.Words.{word, behind}
 use Rattle.line_words.specs.Numbers.{number_of}
 use Rattle.line_words.proofs.Decimals.{lacks, lacks_decimal, lacks_more, number_decimal}
 use Rattle.line_words.proofs.Fronts.{behind_front, word_front}
+use Rattle.part_lines.proofs.Lines.{AreWords, flat_six, six}
 use Rattle.part_lines.proofs.Outcomes.{no_space, number_small}
 use Rattle.report_counts.specs.Lines.{cut_of, drop_by, dropped_for, event_of, line_of, number_by, number_in, port_by, refusal_by, refused_for, result_in, segment_in, sent_by, source_in, then_read, told_by, vid_by}
 use Rattle.report_counts.specs.ReadBack.{IsFront, IsSource, IsVid, ReadsBackDrops, ReadsBackReplies, read_of, reply_of}
@@ -106,21 +107,6 @@ chain : (r1 : Result ℕ LineFault) (r2 : Result Source LineFault) (r3 : Result 
     Ok (Event (record { event = event; moment = m; source = s; number = n; segment = g; result = o })))))))
     ≡ Ok (Event (record { event = event; moment = moment; source = source; number = number; segment = segment; result = result }))
 chain r1 r2 r3 r4 r5 event moment number source segment result e1 e2 e3 e4 e5 = rw (e1, e2, e3, e4, e5) refl
-
-six : List ℕ → List ℕ → List ℕ → List ℕ → List ℕ → List ℕ → List ℕ
-six a b c d s r = a ++ 32 ∷ (b ++ 32 ∷ (c ++ 32 ∷ (d ++ 32 ∷ (s ++ 32 ∷ r))))
-
-flat_six : (a b c d s r : List ℕ) → a ++ 32 ∷ [] ++ b ++ 32 ∷ [] ++ c ++ 32 ∷ [] ++ d ++ 32 ∷ [] ++ ((s ++ 32 ∷ [] ++ r) ++ 10 ∷ []) ≡ six a b c d s r ++ 10 ∷ []
-unfolding six
-flat_six a b c d s r = simp append_assoc refl
-
--- words without a space
-record AreWords (a b c d s : List ℕ) : Type 0 where
-  first : lacks 32 a ≡ true
-  second : lacks 32 b ≡ true
-  third : lacks 32 c ≡ true
-  fourth : lacks 32 d ≡ true
-  fifth : lacks 32 s ≡ true
 
 five_told : (event moment number : ℕ) (source : Source) (segment : Option ℕ) (result : Outcome) (a b c d s r : List ℕ) → AreWords a b c d s
     → number_in b ≡ Ok moment → source_in c ≡ Ok source → number_in d ≡ Ok number → segment_in s ≡ Ok segment → result_in r ≡ Ok result

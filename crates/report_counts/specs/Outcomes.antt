@@ -1,6 +1,6 @@
 -- What came of a frame at its places, as a decision line tells it: `p2=60 192.0.2.2!TooBig`. It states no standard.
-use Rattle.std.specs.Prelude.{ℕ, ◌+◌, ◌==◌, nat_le, nat_lt, Bool, ◌&&◌, ◌||◌, if◌then◌else◌, List, length, take, drop, slice_index, position}
-use Rattle.std.specs.Prelude.{Option, Some, None, is_some, option_map}
+use Rattle.std.specs.Prelude.{ℕ, ◌+◌, ◌==◌, nat_le, nat_lt, Bool, ◌&&◌, ◌||◌, if◌then◌else◌, List, length, take, drop}
+use Rattle.std.specs.Prelude.{slice_index, position, Option, Some, None, is_some, option_map}
 use Rattle.std.specs.List.{filter_map, list_all}
 use Rattle.std.specs.Option.{option_and_then}
 use Rattle.header_octets.specs.Octets.{is_same}

@@ -5,3 +5,4 @@ pub mod FirstLine
 pub mod Rows
 pub mod BySegment
 pub mod Markup
+pub mod Marks

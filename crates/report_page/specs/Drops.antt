@@ -1,6 +1,7 @@
 -- What was dropped and refused, and why. It states no standard.
 use Rattle.std.specs.Prelude.{ℕ, ◌-◌, ◌==◌, if◌then◌else◌, List, [], codes, decimal, map, slice_get, slice_index, slice_index_or}
 use Rattle.std.specs.Prelude.{Option, Some, None}
+use Rattle.std.specs.List.{flat_map}
 use Rattle.std.specs.Borrow.{Bor}
 use Rattle.frame_view.specs.Reason.{name_of, number_of}
 use Rattle.frame_view.specs.declared.reason.Reason.{Reason}
@@ -9,9 +10,10 @@ use Rattle.endpoint_state.specs.declared.fault.ChangeFault.{ChangeFault}
 use Rattle.endpoint_state.specs.declared.fault.ChangeFault.TheVariants.{FloodFull, TableFull, PoolFull, SegmentsFull}
 use Rattle.report_counts.specs.Tables.{count_in}
 use Rattle.report_counts.specs.declared.counts.ReportCounts.{ReportCounts}
-use Rattle.report_page.specs.declared.causes.TheConstants.{CAUSES}
+use Rattle.endpoint_state.specs.declared.faults.TheConstants.{CHANGE_FAULTS}
 use Rattle.report_page.specs.declared.drops.TheConstants.{DROPS_HEAD, REASONS_HEAD, CAUSES_HEAD, DROPS_END}
-use Rattle.report_page.specs.declared.reasons.TheConstants.{REASONS, SENTENCES}
+use Rattle.frame_view.specs.declared.reasons.TheConstants.{REASONS}
+use Rattle.report_page.specs.declared.reasons.TheConstants.{SENTENCES}
 use Rattle.report_page.specs.declared.series.Kind.TheVariants as kinds
 use Rattle.report_page.specs.OverTime.{number_cell}
 use Rattle.report_page.specs.Picture.{numbers_of, small_bars_cell}
@@ -25,18 +27,6 @@ use Rattle.report_page.specs.Texts.{◌then◌, each}
 abbrev pub met : ReportCounts → ℕ → ℕ → ℕ
 met c vid reason = sum_of (count_in vid reason c.reasons.dropped) (count_in vid reason c.reasons.unsent)
 
--- the cells of a reason in a segment
-unfoldable pub drop_cells : ℕ → ℕ → List ℕ → ℕ → List ℕ → List ℕ
-drop_cells vid number name count sentence =
-    codes "<tr><th scope=\"row\">" then segment_word vid then codes "</th>" then number_cell number then codes "<td>" then name
-    then codes "</td>" then number_cell count then codes "<td class=\"why\">" then sentence then codes "</td></tr>\n"
-
--- the row of a reason in a segment, where it was met
-unfoldable pub drop_row : ReportCounts → ℕ → Reason → List ℕ → List ℕ
-drop_row c vid reason sentence =
-    if met c vid (number_of reason) == 0 then []
-    else drop_cells vid (number_of reason) (name_of reason) (met c vid (number_of reason)) sentence
-
 -- the text of a constant
 abbrev pub constant_text : record { now : List ℕ } → List ℕ
 constant_text text = text.now
@@ -45,21 +35,25 @@ constant_text text = text.now
 abbrev pub told_text : Bor (List ℕ) → List ℕ
 told_text text = text.now
 
--- what a reason means, by its place
-unfoldable pub sentence_at : ℕ → List ℕ
-sentence_at place = slice_index_or (map constant_text SENTENCES) place []
+-- what the reason of a number means
+unfoldable pub sentence_of : ℕ → List ℕ
+sentence_of number = slice_index_or (map constant_text SENTENCES) (number - 1) []
 
--- the row of the reason that stands at a place
-abbrev pub drop_by : ReportCounts → ℕ → Option Reason → List ℕ → List ℕ
-drop_by c vid (Some reason) sentence = drop_row c vid reason sentence
-drop_by c vid None sentence = []
+-- the cells of a reason in a segment
+unfoldable pub drop_cells : ℕ → ℕ → List ℕ → ℕ → List ℕ → List ℕ
+drop_cells vid number name count sentence =
+    codes "<tr><th scope=\"row\">" then segment_word vid then codes "</th>" then number_cell number then codes "<td>" then name
+    then codes "</td>" then number_cell count then codes "<td class=\"why\">" then sentence then codes "</td></tr>\n"
 
-unfoldable pub drop_at : ReportCounts → ℕ → ℕ → List ℕ
-drop_at c vid place = drop_by c vid (slice_get REASONS place) (sentence_at place)
+-- the row of a reason in a segment, where it was met
+unfoldable pub drop_row : ReportCounts → ℕ → Reason → List ℕ
+drop_row c vid reason =
+    if met c vid (number_of reason) == 0 then []
+    else drop_cells vid (number_of reason) (name_of reason) (met c vid (number_of reason)) (sentence_of (number_of reason))
 
 -- the rows of a segment
 abbrev pub segment_drops : ReportCounts → ℕ → List ℕ
-segment_drops c vid = each (drop_at c vid) 40
+segment_drops c vid = flat_map (drop_row c vid) REASONS
 
 -- the name of the reason of a number; of none of them nothing
 abbrev pub name_by : Option Reason → List ℕ
@@ -83,13 +77,6 @@ reason_row c reason =
     then number_cell (met_in_all c (number_of reason)) then small_bars_cell (codes "c") c (kinds.Reason (number_of reason))
     then codes "</tr>\n"
 
-abbrev pub reason_by : ReportCounts → Option Reason → List ℕ
-reason_by c (Some reason) = reason_row c reason
-reason_by c None = []
-
-unfoldable pub reason_at : ReportCounts → ℕ → List ℕ
-reason_at c place = reason_by c (slice_get REASONS place)
-
 -- ---- causes
 
 -- what marks a cause that is a limit
@@ -112,17 +99,10 @@ cause_row c cause =
     if slice_index c.refused (cause_number cause) == 0 then []
     else cause_cells (cause_number cause) (cause_name cause) (slice_index c.refused (cause_number cause)) (limit_mark cause)
 
-abbrev pub cause_by : ReportCounts → Option ChangeFault → List ℕ
-cause_by c (Some cause) = cause_row c cause
-cause_by c None = []
-
-unfoldable pub cause_at : ReportCounts → ℕ → List ℕ
-cause_at c place = cause_by c (slice_get CAUSES place)
-
 -- ---- all of it
 
 unfoldable pub drops_text : ReportCounts → List ℕ
 drops_text c =
     DROPS_HEAD.now then each (λ place. segment_drops c (segment_at place)) 4095
-    then REASONS_HEAD.now then each (reason_at c) 40
-    then CAUSES_HEAD.now then each (cause_at c) 14 then DROPS_END.now
+    then REASONS_HEAD.now then flat_map (reason_row c) REASONS
+    then CAUSES_HEAD.now then flat_map (cause_row c) CHANGE_FAULTS then DROPS_END.now

@@ -6,11 +6,11 @@ use Rattle.report_page.specs.Series.{together}
 use Rattle.report_page.specs.Texts.{◌then◌}
 
 -- a fact and its number
-abbrev pub fact_text : List ℕ → ℕ → List ℕ
+unfoldable pub fact_text : List ℕ → ℕ → List ℕ
 fact_text label number = codes "<div><dt>" then label then codes "</dt><dd>" then decimal number then codes "</dd></div>\n"
 
 -- a moment, to the second and in nanoseconds
-abbrev pub moment_fact : List ℕ → ℕ → List ℕ
+unfoldable pub moment_fact : List ℕ → ℕ → List ℕ
 moment_fact label moment =
     codes "<div><dt>" then label then codes "</dt><dd>" then moment_text moment then codes "<small>" then decimal moment
     then codes " ns</small></dd></div>\n"
@@ -19,22 +19,11 @@ moment_fact label moment =
 abbrev pub refused_all : ReportCounts → ℕ
 refused_all c = together (λ cause. slice_index c.refused (cause % 256)) 256
 
--- what came, from when to when
-unfoldable pub came_facts : ℕ → ℕ → ℕ → List ℕ
-came_facts events first last =
-    fact_text (codes "Events") events then moment_fact (codes "First moment") first then moment_fact (codes "Last moment") last
-
--- what became of it
-unfoldable pub end_facts : ℕ → ℕ → ℕ → List ℕ
-end_facts sent unsent dropped =
-    fact_text (codes "Sent") sent then fact_text (codes "Not sent at an outlet") unsent then fact_text (codes "Dropped") dropped
-
--- what became of changes
-unfoldable pub change_facts : ℕ → ℕ → List ℕ
-change_facts done refused = fact_text (codes "Changes done") done then fact_text (codes "Changes refused") refused
-
--- all of it
+-- all of it: what came, from when to when; what became of it; and what became of changes
 unfoldable pub facts_text : ReportCounts → List ℕ
 facts_text c =
-    codes "<dl>\n" then came_facts c.events c.stretch.first c.stretch.last then end_facts c.sent c.unsent c.dropped
-    then change_facts c.done (refused_all c) then codes "</dl>\n"
+    codes "<dl>\n" then fact_text (codes "Events") c.events
+    then moment_fact (codes "First moment") c.stretch.first then moment_fact (codes "Last moment") c.stretch.last
+    then fact_text (codes "Sent") c.sent then fact_text (codes "Not sent at an outlet") c.unsent
+    then fact_text (codes "Dropped") c.dropped
+    then fact_text (codes "Changes done") c.done then fact_text (codes "Changes refused") (refused_all c) then codes "</dl>\n"

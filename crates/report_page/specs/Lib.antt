@@ -14,4 +14,5 @@ pub mod FirstDrops
 pub mod Matrix
 pub mod Lines
 pub mod Told
+pub mod Senders
 pub mod Page

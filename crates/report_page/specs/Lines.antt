@@ -1,15 +1,14 @@
 -- The lines of a text, each ended by LF, but the last maybe by the end of the text. It states no standard.
 use Rattle.std.specs.Prelude.{ℕ, ◌==◌, if◌then◌else◌, Bool, List, [], ◌∷◌, filter}
 use Rattle.std.specs.List.{onto_first}
+use Rattle.line_words.specs.Splits.{before_octet, behind_octet}
 
 -- the first line of a text, and what stands behind its end
 abbrev pub first_line : List ℕ → List ℕ
-first_line [] = []
-first_line (c ∷ cs) = if c == 10 then [] else c ∷ first_line cs
+first_line text = before_octet 10 text
 
 abbrev pub behind_line : List ℕ → List ℕ
-behind_line [] = []
-behind_line (c ∷ cs) = if c == 10 then cs else behind_line cs
+behind_line text = behind_octet 10 text
 
 -- all lines
 abbrev pub lines_of : List ℕ → List (List ℕ)

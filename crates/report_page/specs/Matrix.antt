@@ -3,12 +3,14 @@
 --     matrix_text      the picture and the table
 use Rattle.std.specs.Prelude.{ℕ, ◌+◌, ◌*◌, ◌/◌, ◌%◌, ◌==◌, ◌&&◌, ◌||◌, nat_lt, if◌then◌else◌, Bool, cond, List, [], codes, decimal}
 use Rattle.std.specs.Prelude.{min, slice_index, Option, Some, None}
+use Rattle.std.specs.Option.{option_map_or}
 use Rattle.report_counts.specs.Outlets.{name_of}
 use Rattle.report_counts.specs.Rows.{pair_of}
 use Rattle.report_counts.specs.declared.counts.ReportCounts.{ReportCounts}
 use Rattle.report_counts.specs.declared.pairs.Pair.{Pair}
 use Rattle.report_page.specs.declared.ranks.Side.{Side}
 use Rattle.report_page.specs.declared.ranks.Side.TheVariants.{Sources, Outlets}
+use Rattle.report_page.specs.declared.shown.Ranked.{Ranked}
 use Rattle.report_page.specs.declared.matrix.TheConstants.{PAIRS_HEAD, PAIRS_PICTURE, PAIRS_SHOWN, PAIRS_TABLE, PAIRS_END}
 use Rattle.report_page.specs.Escaped.{escaped}
 use Rattle.report_page.specs.OverTime.{number_cell}
@@ -53,6 +55,10 @@ below_forty rank = if nat_lt rank 40 then Some rank else None
 unfoldable pub shown_rank : ReportCounts → Side → ℕ → Option ℕ
 shown_rank c side place = if size_of c side place == 0 then None else below_forty (rank_of c side place)
 
+-- the text of the one at a place, where it is shown
+abbrev pub shown_at : ReportCounts → Side → (Ranked → List ℕ) → ℕ → List ℕ
+shown_at c side text place = option_map_or (λ rank. text (record { place = place; rank = rank })) (shown_rank c side place) []
+
 -- ---- the picture
 
 -- what came from the source of a place and left at an outlet
@@ -87,21 +93,9 @@ square_of c most source row outlet column =
     else square_box (40 + column * 12) (160 + row * 12) (shade_of most frames)
     then square_title (source_of source) (name_of outlet c.outlets.names) frames
 
--- and where the outlet is shown
-abbrev pub square_by : ReportCounts → ℕ → ℕ → ℕ → ℕ → Option ℕ → List ℕ
-square_by c most source row outlet (Some column) = square_of c most source row outlet column
-square_by c most source row outlet None = []
-
-unfoldable pub square_at : ReportCounts → ℕ → ℕ → ℕ → ℕ → List ℕ
-square_at c most source row outlet = square_by c most source row outlet (shown_rank c Outlets outlet)
-
--- the squares of a source that is shown
-abbrev pub squares_by : ReportCounts → ℕ → ℕ → Option ℕ → List ℕ
-squares_by c most source (Some row) = each (square_at c most source row) 513
-squares_by c most source None = []
-
-unfoldable pub squares_at : ReportCounts → ℕ → ℕ → List ℕ
-squares_at c most source = squares_by c most source (shown_rank c Sources source)
+-- the squares of a source in a row, each where its outlet is shown
+abbrev pub squares_of : ReportCounts → ℕ → ℕ → ℕ → List ℕ
+squares_of c most source row = each (shown_at c Outlets (λ outlet. square_of c most source row outlet.place outlet.rank)) 513
 
 -- ---- names
 
@@ -111,25 +105,11 @@ row_label source row =
     codes "<text x=\"36\" y=\"" then decimal (168 + row * 12) then codes "\" text-anchor=\"end\">" then source_word source
     then codes "</text>\n"
 
-abbrev pub row_by : ℕ → Option ℕ → List ℕ
-row_by source (Some row) = row_label (source_of source) row
-row_by source None = []
-
-unfoldable pub row_at : ReportCounts → ℕ → List ℕ
-row_at c source = row_by source (shown_rank c Sources source)
-
 -- the name above a column
 unfoldable pub column_label : List ℕ → ℕ → List ℕ
 column_label outlet column =
     codes "<text transform=\"translate(" then decimal (48 + column * 12) then codes " 156) rotate(-90)\">" then escaped outlet
     then codes "</text>\n"
-
-abbrev pub column_by : List ℕ → Option ℕ → List ℕ
-column_by outlet (Some column) = column_label outlet column
-column_by outlet None = []
-
-unfoldable pub column_at : ReportCounts → ℕ → List ℕ
-column_at c outlet = column_by (name_of outlet c.outlets.names) (shown_rank c Outlets outlet)
 
 -- ---- the table
 
@@ -139,27 +119,15 @@ pair_cells source outlet pair =
     codes "<tr><th scope=\"row\">" then source_word source then codes "</th><td>" then escaped outlet then codes "</td>"
     then number_cell pair.frames then number_cell pair.octets then codes "</tr>\n"
 
--- where there were frames
+-- their row, where there were frames
 unfoldable pub pair_row : ReportCounts → ℕ → ℕ → List ℕ
 pair_row c source outlet =
     if (pair_at c source outlet).frames == 0 then []
     else pair_cells (source_of source) (name_of outlet c.outlets.names) (pair_at c source outlet)
 
--- and the outlet is shown
-abbrev pub pair_by : ReportCounts → ℕ → ℕ → Option ℕ → List ℕ
-pair_by c source outlet (Some column) = pair_row c source outlet
-pair_by c source outlet None = []
-
-unfoldable pub pair_in : ReportCounts → ℕ → ℕ → List ℕ
-pair_in c source outlet = pair_by c source outlet (shown_rank c Outlets outlet)
-
--- the rows of a source that is shown
-abbrev pub pairs_by : ReportCounts → ℕ → Option ℕ → List ℕ
-pairs_by c source (Some row) = each (pair_in c source) 513
-pairs_by c source None = []
-
-unfoldable pub pairs_at : ReportCounts → ℕ → List ℕ
-pairs_at c source = pairs_by c source (shown_rank c Sources source)
+-- the rows of a source, each where its outlet is shown
+abbrev pub pairs_of : ReportCounts → ℕ → List ℕ
+pairs_of c source = each (shown_at c Outlets (λ outlet. pair_row c source outlet.place)) 513
 
 -- ---- all of it
 
@@ -175,10 +143,12 @@ height_for sources = 160 + min sources 40 * 12
 
 unfoldable pub pairs_picture : ReportCounts → ℕ → ℕ → List ℕ
 pairs_picture c height most =
-    PAIRS_PICTURE.now then decimal height then PAIRS_SHOWN.now then each (row_at c) 256 then each (column_at c) 513
-    then each (squares_at c most) 256
+    PAIRS_PICTURE.now then decimal height then PAIRS_SHOWN.now
+    then each (shown_at c Sources (λ source. row_label (source_of source.place) source.rank)) 256
+    then each (shown_at c Outlets (λ outlet. column_label (name_of outlet.place c.outlets.names) outlet.rank)) 513
+    then each (shown_at c Sources (λ source. squares_of c most source.place source.rank)) 256
 
 unfoldable pub matrix_text : ReportCounts → List ℕ
 matrix_text c =
     pairs_front (some_of c Sources) (some_of c Outlets) then pairs_picture c (height_for (some_of c Sources)) (most_frames c)
-    then PAIRS_TABLE.now then each (pairs_at c) 256 then PAIRS_END.now
+    then PAIRS_TABLE.now then each (shown_at c Sources (λ source. pairs_of c source.place)) 256 then PAIRS_END.now

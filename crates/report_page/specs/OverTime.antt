@@ -19,17 +19,13 @@ number_cell number = codes "<td class=\"n\">" then decimal number then codes "</
 abbrev pub begin_of : Stretch → ℕ → ℕ
 begin_of stretch span = sum_of stretch.first (min most (span * width stretch))
 
--- the cells of a span: when it begins, and what came, left and was dropped
-unfoldable pub span_cells : ℕ → ℕ → ℕ → ℕ → ℕ → ℕ → ℕ → List ℕ
-span_cells span begin ports underlay local remote dropped =
-    codes "<tr><th scope=\"row\">" then decimal span then codes "</th>" then number_cell begin then number_cell ports
-    then number_cell underlay then number_cell local then number_cell remote then number_cell dropped then codes "</tr>\n"
-
--- the row of a span
+-- the row of a span: when it begins, and what came, left and was dropped
 unfoldable pub span_row : ReportCounts → ℕ → List ℕ
 span_row c span =
-    span_cells span (begin_of c.stretch span) (number_at c (All Ports) span) (number_at c (Came 256) span)
-    (number_at c (All LocalOutlets) span) (number_at c (All RemoteOutlets) span) (number_at c (All Segments) span)
+    codes "<tr><th scope=\"row\">" then decimal span then codes "</th>" then number_cell (begin_of c.stretch span)
+    then number_cell (number_at c (All Ports) span) then number_cell (number_at c (Came 256) span)
+    then number_cell (number_at c (All LocalOutlets) span) then number_cell (number_at c (All RemoteOutlets) span)
+    then number_cell (number_at c (All Segments) span) then codes "</tr>\n"
 
 -- three pictures and their numbers
 unfoldable pub over_time : ReportCounts → List ℕ

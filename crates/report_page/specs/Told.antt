@@ -5,7 +5,6 @@ use Rattle.std.specs.Prelude.{ℕ, zero, suc, ◌==◌, ◌&&◌, not, if◌then
 use Rattle.std.specs.List.{flat_map, list_any}
 use Rattle.header_octets.specs.Octets.{is_same}
 use Rattle.line_words.specs.Words.{word, behind}
-use Rattle.report_page.specs.declared.moves.Moves.{Moves}
 use Rattle.report_page.specs.declared.told.TheConstants.{STATIONS_HEAD, TALKS_TITLE, TALKS_HEAD, MOVES_TITLE, MOVES_HEAD, TALK_HEADS}
 use Rattle.report_page.specs.declared.told.TheConstants.{ENTRIES_TITLE, ENTRIES_HEAD, TABLE_END, STATIONS_END}
 use Rattle.report_page.specs.Escaped.{escaped}
@@ -107,10 +106,6 @@ is_elsewhere segment source from other =
 unfoldable pub has_moved : List (List ℕ) → List ℕ → Bool
 has_moved talks line = list_any (is_elsewhere (word_at 1 line) (word_at 2 line) (word_at 3 line)) talks
 
--- the talks that others are compared with
-abbrev pub compared_with : Moves → List (List ℕ)
-compared_with moves = take moves.count (talks_of moves.talks.now)
-
 abbrev pub is_move : List (List ℕ) → List ℕ → Bool
 is_move talks line = is_talk line && has_moved talks line
 
@@ -125,14 +120,14 @@ talks_table text =
     TALKS_TITLE.now then decimal (length (talks_of text)) then TALKS_HEAD.now then TALK_HEADS.now
     then rows_of talk_row (largest_of (talks_of text)) then TABLE_END.now
 
--- of moves among these talks
-unfoldable pub moves_told : ℕ → List (List ℕ) → List ℕ → List ℕ
-moves_told count talks text =
+-- of the lines that are moves
+unfoldable pub moves_told : ℕ → (List ℕ → Bool) → List ℕ → List ℕ
+moves_told count is_one text =
     MOVES_TITLE.now then decimal count then MOVES_HEAD.now then TALK_HEADS.now
-    then rows_of talk_row (take 1000 (lines_where (is_move talks) text)) then TABLE_END.now
+    then rows_of talk_row (take 1000 (lines_where is_one text)) then TABLE_END.now
 
 abbrev pub moves_table : List ℕ → List ℕ
-moves_table text = moves_told (length (moves_of text)) (take 4096 (talks_of text)) text
+moves_table text = moves_told (length (moves_of text)) (is_move (take 4096 (talks_of text))) text
 
 unfoldable pub entries_table : List ℕ → List ℕ
 entries_table text =

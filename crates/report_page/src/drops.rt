@@ -1,19 +1,17 @@
 //! What was dropped and refused, and why.
 ghost use Rattle.std.specs.Prelude.{◌≡◌, Some, [], map, slice_get, slice_index_or};
-ghost use Rattle.report_page.specs.Drops.{cause_at, cause_cells, cause_row, drop_at, drop_cells, drop_row, drops_text};
-ghost use Rattle.report_page.specs.Drops.{limit_mark, met, met_in_all};
-ghost use Rattle.report_page.specs.Drops.{reason_at, reason_name, reason_row, segment_drops, sentence_at, told_text};
+ghost use Rattle.report_page.specs.Drops.{cause_cells, cause_row, drop_cells, drop_row, drops_text, limit_mark, met, met_in_all};
+ghost use Rattle.report_page.specs.Drops.{reason_name, reason_row, segment_drops, sentence_of, told_text};
 ghost use Rattle.report_page.specs.Segments.{segment_at};
 
-use crate::causes::CAUSES;
-use crate::each::{Each, Parts};
+use crate::each::{Each, EachOf, Parts};
 use crate::over_time::NumberCell;
 use crate::picture::SmallBarsCell;
-use crate::reasons::{REASONS, SENTENCES};
+use crate::reasons::SENTENCES;
 use crate::segments::{SegmentWord, segment_at};
 use crate::series::{Kind, SPANS, Series, sum_of, together};
-use endpoint_state::ChangeFault;
-use frame_view::Reason;
+use endpoint_state::{CHANGE_FAULTS, ChangeFault};
+use frame_view::{REASONS, Reason};
 use report_counts::ReportCounts;
 use std::fmt;
 
@@ -48,11 +46,43 @@ fn met(counts: &ReportCounts, vid: u16, reason: u8) -> u64
 fn met_in_all(counts: &ReportCounts, reason: u8) -> u64
     ensures { result ≡ met_in_all counts.now reason }
 {
-    let series = Series {
-        counts,
-        kind: Kind::Reason(reason),
-    };
-    together(&series, SPANS)
+    together(&Series(counts, Kind::Reason(reason)), SPANS)
+}
+
+/// The text of a place in a table; nothing behind its end.
+fn text_in(texts: &[&'static str], place: u16) -> &'static str
+    ensures { result.now ≡ slice_index_or (map told_text texts.now) place [] }
+{
+    match texts.get(usize::from(place)) {
+        Some(text) => *text,
+        None => "",
+    }
+}
+
+/// What the reason of a number means.
+#[tactic(auto, unfolding(crate::specs::Drops::sentence_of))]
+fn sentence_of(number: u8) -> &'static str
+    ensures { result.now ≡ sentence_of number }
+{
+    text_in(&SENTENCES, u16::from(number).saturating_sub(1))
+}
+
+/// The reason of a place in a table; none behind its end.
+fn reason_in(reasons: &[Reason], place: u16) -> Option<Reason>
+    ensures { result ≡ slice_get reasons.now place }
+{
+    reasons.get(usize::from(place)).copied()
+}
+
+/// The name of the reason of a number; of none of them nothing.
+#[tactic(auto, unfolding(crate::specs::Drops::reason_name))]
+pub(crate) fn reason_name(number: u8) -> &'static str
+    ensures { result.now ≡ reason_name number }
+{
+    match reason_in(&REASONS, u16::from(number).saturating_sub(1)) {
+        Some(reason) => reason.name(),
+        None => "",
+    }
 }
 
 /// The cells of a reason in a segment.
@@ -82,21 +112,19 @@ impl fmt::Display for DropCells {
     }
 }
 
-/// The row of a reason in a segment.
+/// The rows of the reasons that were met in a segment.
 #[derive(Clone, Copy)]
-struct DropRow<'a> {
+struct DropsOf<'a> {
     counts: &'a ReportCounts,
     vid: u16,
-    reason: Reason,
-    sentence: &'static str,
 }
 
-impl<'a> fmt::Display for DropRow<'a> {
-    ghost output = { λ row. Some (drop_row row.counts.now row.vid row.reason row.sentence.now) };
+impl<'a> Parts<Reason> for DropsOf<'a> {
+    ghost part = { λ rows reason. drop_row rows.counts.now rows.vid reason };
 
     #[tactic(auto, unfolding(crate::specs::Drops::drop_row))]
-    fn fmt<W: fmt::Write>(&self, f: &mut fmt::Formatter<W>) -> fmt::Result {
-        let number = self.reason.number();
+    fn put<W: fmt::Write>(&self, reason: Reason, f: &mut fmt::Formatter<W>) -> fmt::Result {
+        let number = reason.number();
         let count = met(self.counts, self.vid, number);
         if count == 0 {
             return Ok(());
@@ -104,81 +132,11 @@ impl<'a> fmt::Display for DropRow<'a> {
         let cells = DropCells {
             vid: self.vid,
             number: u64::from(number),
-            name: self.reason.name(),
+            name: reason.name(),
             count,
-            sentence: self.sentence,
+            sentence: sentence_of(number),
         };
         write!(f, "{cells}")
-    }
-}
-
-/// The text of a place in a table; nothing behind its end.
-fn text_in(texts: &[&'static str], place: u16) -> &'static str
-    ensures { result.now ≡ slice_index_or (map told_text texts.now) place [] }
-{
-    match texts.get(usize::from(place)) {
-        Some(text) => *text,
-        None => "",
-    }
-}
-
-/// What a reason means, by its place.
-#[tactic(auto, unfolding(crate::specs::Drops::sentence_at))]
-fn sentence_at(place: u16) -> &'static str
-    ensures { result.now ≡ sentence_at place }
-{
-    text_in(&SENTENCES, place)
-}
-
-/// The reason of a place in a table; none behind its end.
-fn reason_in(reasons: &[Reason], place: u16) -> Option<Reason>
-    ensures { result ≡ slice_get reasons.now place }
-{
-    reasons.get(usize::from(place)).copied()
-}
-
-/// The cause of a place in a table; none behind its end.
-fn cause_in(causes: &[ChangeFault], place: u16) -> Option<ChangeFault>
-    ensures { result ≡ slice_get causes.now place }
-{
-    causes.get(usize::from(place)).copied()
-}
-
-/// The name of the reason of a number; of none of them nothing.
-#[tactic(auto, unfolding(crate::specs::Drops::reason_name))]
-pub(crate) fn reason_name(number: u8) -> &'static str
-    ensures { result.now ≡ reason_name number }
-{
-    match reason_in(&REASONS, u16::from(number).saturating_sub(1)) {
-        Some(reason) => reason.name(),
-        None => "",
-    }
-}
-
-/// The rows of a segment.
-#[derive(Clone, Copy)]
-struct DropsOf<'a> {
-    counts: &'a ReportCounts,
-    vid: u16,
-}
-
-impl<'a> Parts for DropsOf<'a> {
-    ghost part = { λ rows place. drop_at rows.counts.now rows.vid place };
-
-    #[tactic(auto, unfolding(crate::specs::Drops::drop_at))]
-    fn put<W: fmt::Write>(&self, place: u16, f: &mut fmt::Formatter<W>) -> fmt::Result {
-        match reason_in(&REASONS, place) {
-            Some(reason) => {
-                let row = DropRow {
-                    counts: self.counts,
-                    vid: self.vid,
-                    reason,
-                    sentence: sentence_at(place),
-                };
-                write!(f, "{row}")
-            }
-            None => Ok(()),
-        }
     }
 }
 
@@ -186,73 +144,40 @@ impl<'a> Parts for DropsOf<'a> {
 #[derive(Clone, Copy)]
 struct DropRows<'a>(&'a ReportCounts);
 
-impl<'a> Parts for DropRows<'a> {
+impl<'a> Parts<u16> for DropRows<'a> {
     ghost part = { λ rows place. segment_drops rows.0.now (segment_at place) };
 
     fn put<W: fmt::Write>(&self, place: u16, f: &mut fmt::Formatter<W>) -> fmt::Result {
-        let rows = Each {
-            parts: DropsOf {
-                counts: self.0,
-                vid: segment_at(place),
-            },
-            count: 40,
+        let drops = DropsOf {
+            counts: self.0,
+            vid: segment_at(place),
         };
+        let rows = EachOf(drops, &REASONS);
         write!(f, "{rows}")
     }
 }
 
-/// The row of a reason over time.
+/// The rows of the reasons that were met at all.
 #[derive(Clone, Copy)]
-struct ReasonRow<'a> {
-    counts: &'a ReportCounts,
-    reason: Reason,
-}
+struct ReasonRows<'a>(&'a ReportCounts);
 
-impl<'a> fmt::Display for ReasonRow<'a> {
-    ghost output = { λ row. Some (reason_row row.counts.now row.reason) };
+impl<'a> Parts<Reason> for ReasonRows<'a> {
+    ghost part = { λ rows reason. reason_row rows.0.now reason };
 
     #[tactic(auto, unfolding(crate::specs::Drops::reason_row))]
-    fn fmt<W: fmt::Write>(&self, f: &mut fmt::Formatter<W>) -> fmt::Result {
-        let number = self.reason.number();
-        let count = met_in_all(self.counts, number);
+    fn put<W: fmt::Write>(&self, reason: Reason, f: &mut fmt::Formatter<W>) -> fmt::Result {
+        let number = reason.number();
+        let count = met_in_all(self.0, number);
         if count == 0 {
             return Ok(());
         }
-        let name = self.reason.name();
+        let name = reason.name();
         let count = NumberCell(count);
-        let bars = SmallBarsCell {
-            colour: "c",
-            series: Series {
-                counts: self.counts,
-                kind: Kind::Reason(number),
-            },
-        };
+        let bars = SmallBarsCell("c", Series(self.0, Kind::Reason(number)));
         write!(
             f,
             "<tr><th scope=\"row\">{number} {name}</th>{count}{bars}</tr>\n"
         )
-    }
-}
-
-/// The rows of all reasons.
-#[derive(Clone, Copy)]
-struct ReasonRows<'a>(&'a ReportCounts);
-
-impl<'a> Parts for ReasonRows<'a> {
-    ghost part = { λ rows place. reason_at rows.0.now place };
-
-    #[tactic(auto, unfolding(crate::specs::Drops::reason_at))]
-    fn put<W: fmt::Write>(&self, place: u16, f: &mut fmt::Formatter<W>) -> fmt::Result {
-        match reason_in(&REASONS, place) {
-            Some(reason) => {
-                let row = ReasonRow {
-                    counts: self.0,
-                    reason,
-                };
-                write!(f, "{row}")
-            }
-            None => Ok(()),
-        }
     }
 }
 
@@ -299,52 +224,27 @@ impl fmt::Display for CauseCells {
     }
 }
 
-/// The row of a cause.
+/// The rows of the causes for which changes were refused.
 #[derive(Clone, Copy)]
-struct CauseRow<'a> {
-    counts: &'a ReportCounts,
-    cause: ChangeFault,
-}
+struct CauseRows<'a>(&'a ReportCounts);
 
-impl<'a> fmt::Display for CauseRow<'a> {
-    ghost output = { λ row. Some (cause_row row.counts.now row.cause) };
+impl<'a> Parts<ChangeFault> for CauseRows<'a> {
+    ghost part = { λ rows cause. cause_row rows.0.now cause };
 
     #[tactic(auto, unfolding(crate::specs::Drops::cause_row))]
-    fn fmt<W: fmt::Write>(&self, f: &mut fmt::Formatter<W>) -> fmt::Result {
-        let number = self.cause.number();
-        let count = self.counts.refused(number);
+    fn put<W: fmt::Write>(&self, cause: ChangeFault, f: &mut fmt::Formatter<W>) -> fmt::Result {
+        let number = cause.number();
+        let count = self.0.refused(number);
         if count == 0 {
             return Ok(());
         }
         let cells = CauseCells {
             number,
-            name: self.cause.name(),
+            name: cause.name(),
             count,
-            mark: LimitMark(self.cause),
+            mark: LimitMark(cause),
         };
         write!(f, "{cells}")
-    }
-}
-
-/// The rows of all causes.
-#[derive(Clone, Copy)]
-struct CauseRows<'a>(&'a ReportCounts);
-
-impl<'a> Parts for CauseRows<'a> {
-    ghost part = { λ rows place. cause_at rows.0.now place };
-
-    #[tactic(auto, unfolding(crate::specs::Drops::cause_at))]
-    fn put<W: fmt::Write>(&self, place: u16, f: &mut fmt::Formatter<W>) -> fmt::Result {
-        match cause_in(&CAUSES, place) {
-            Some(cause) => {
-                let row = CauseRow {
-                    counts: self.0,
-                    cause,
-                };
-                write!(f, "{row}")
-            }
-            None => Ok(()),
-        }
     }
 }
 
@@ -357,18 +257,9 @@ impl<'a> fmt::Display for Drops<'a> {
 
     #[tactic(auto, unfolding(crate::specs::Drops::drops_text))]
     fn fmt<W: fmt::Write>(&self, f: &mut fmt::Formatter<W>) -> fmt::Result {
-        let drops = Each {
-            parts: DropRows(self.0),
-            count: 4095,
-        };
-        let reasons = Each {
-            parts: ReasonRows(self.0),
-            count: 40,
-        };
-        let causes = Each {
-            parts: CauseRows(self.0),
-            count: 14,
-        };
+        let drops = Each(DropRows(self.0), 4095);
+        let reasons = EachOf(ReasonRows(self.0), &REASONS);
+        let causes = EachOf(CauseRows(self.0), &CHANGE_FAULTS);
         write!(
             f,
             "{DROPS_HEAD}{drops}{REASONS_HEAD}{reasons}{CAUSES_HEAD}{causes}{DROPS_END}"

@@ -1,9 +1,9 @@
 //! The first events that were dropped.
 ghost use Rattle.std.specs.Prelude.{Some};
-ghost use Rattle.std.specs.List.{flat_map};
 ghost use Rattle.report_page.specs.FirstDrops.{first_cells, first_drops_text, first_row, moment_cells, record_word, vid_text};
 
 use crate::drops::reason_name;
+use crate::each::{EachOf, Parts};
 use crate::moment::Moment;
 use crate::over_time::NumberCell;
 use report_counts::{FirstDrop, ReportCounts};
@@ -87,36 +87,20 @@ impl fmt::Display for FirstCells {
     }
 }
 
-/// The row of a drop.
-#[derive(Clone, Copy)]
-struct FirstRow(FirstDrop);
-
-impl fmt::Display for FirstRow {
-    ghost output = { λ row. Some (first_row row.0) };
-
-    #[tactic(auto, unfolding(crate::specs::FirstDrops::first_row))]
-    fn fmt<W: fmt::Write>(&self, f: &mut fmt::Formatter<W>) -> fmt::Result {
-        let cells = FirstCells {
-            drop: self.0,
-            name: reason_name(self.0.reason),
-        };
-        write!(f, "{cells}")
-    }
-}
-
 /// The rows of drops.
 #[derive(Clone, Copy)]
-struct FirstRows<'a>(&'a [FirstDrop]);
+struct FirstRows;
 
-impl<'a> fmt::Display for FirstRows<'a> {
-    ghost output = { λ rows. Some (flat_map first_row rows.0.now) };
+impl Parts<FirstDrop> for FirstRows {
+    ghost part = { λ rows drop. first_row drop };
 
-    fn fmt<W: fmt::Write>(&self, f: &mut fmt::Formatter<W>) -> fmt::Result {
-        for drop in self.0 {
-            let row = FirstRow(*drop);
-            write!(f, "{row}")?;
-        }
-        Ok(())
+    #[tactic(auto, unfolding(crate::specs::FirstDrops::first_row))]
+    fn put<W: fmt::Write>(&self, drop: FirstDrop, f: &mut fmt::Formatter<W>) -> fmt::Result {
+        let cells = FirstCells {
+            drop,
+            name: reason_name(drop.reason),
+        };
+        write!(f, "{cells}")
     }
 }
 
@@ -129,7 +113,7 @@ impl<'a> fmt::Display for FirstDrops<'a> {
 
     #[tactic(auto, unfolding(crate::specs::FirstDrops::first_drops_text))]
     fn fmt<W: fmt::Write>(&self, f: &mut fmt::Formatter<W>) -> fmt::Result {
-        let rows = FirstRows(self.0.first_drops());
+        let rows = EachOf(FirstRows, self.0.first_drops());
         write!(f, "{FIRST_HEAD}{rows}{FIRST_END}")
     }
 }

@@ -1,17 +1,17 @@
 //! A page that shows what a run gave: HTML 5 with one style and pictures in SVG 2, and nothing from elsewhere.
 //!
 //! Use first: [`write_page`] writes the page of what was counted (`report_counts`) into an output, piece by piece. Each part of
-//! the page is a small value that prints as its text; nothing is counted here, and no memory is asked for.
+//! the page is a small value that prints as its text, but for the senders of up to 4,096 talks, 196 KiB on the stack. Nothing is
+//! counted here, and no memory is asked for.
 //!
 //! Specs to read, in order: `specs/Texts`, `specs/Escaped`, `specs/Moment`, `specs/Series`, `specs/Path`, `specs/Picture`, then
 //! a file for each section, `specs/Facts`, `specs/OverTime`, `specs/Places`, `specs/Segments`, `specs/Drops`, `specs/Matrix`,
-//! `specs/Told`, `specs/FirstDrops`, and `specs/Page`.
+//! `specs/Told`, `specs/FirstDrops`, and `specs/Page`. `specs/Senders` serves the search for moves.
 //!
 //! Proved: the whole page, octet for octet, so each number on it is the one that was counted, at its place; and that no text of
 //! others is markup ([`escaped_has_no_markup`], [`escaped_has_no_loose_ampersand`]).
 #![tactic(auto)]
 
-mod causes;
 mod chosen;
 mod drops;
 mod each;
@@ -33,7 +33,9 @@ mod places;
 mod ranks;
 mod reasons;
 mod segments;
+mod senders;
 mod series;
+mod shown;
 mod squares;
 mod style;
 mod talks;

@@ -1,12 +1,14 @@
 //! Who talks to whom: a picture and a table of sources and outlets, the largest of each.
 ghost use Rattle.std.specs.Prelude.{◌≡◌, Some};
-ghost use Rattle.report_page.specs.Matrix.{column_at, column_label, height_for, matrix_text, pairs_front, pairs_picture, row_at, row_label};
+ghost use Rattle.report_counts.specs.Outlets.{name_of};
+ghost use Rattle.report_page.specs.Matrix.{column_label, height_for, matrix_text, pairs_front, pairs_picture, row_label, source_of};
 
 use crate::each::{Each, Parts};
 use crate::escaped::Escaped;
 use crate::pair_rows::PairRows;
 use crate::places::SourceWord;
-use crate::ranks::{Side, most_frames, shown_rank, some_of, source_number};
+use crate::ranks::{Side, most_frames, some_of, source_number};
+use crate::shown::{Ranked, Shown};
 use crate::squares::Squares;
 use report_counts::ReportCounts;
 use std::fmt;
@@ -28,66 +30,20 @@ const PAIRS_TABLE: &str =
 
 const PAIRS_END: &str = "</tbody>\n</table></div></details>\n</section>\n";
 
-/// The name in front of a row.
+/// The names in front of the rows.
 #[derive(Clone, Copy)]
-struct RowLabel {
-    source: u16,
-    row: u8,
-}
+struct RowLabels;
 
-impl fmt::Display for RowLabel {
-    ghost output = { λ label. Some (row_label label.source label.row) };
+impl Parts<Ranked> for RowLabels {
+    ghost part = { λ labels source. row_label (source_of source.place) source.rank };
 
     #[tactic(auto, unfolding(crate::specs::Matrix::row_label))]
-    fn fmt<W: fmt::Write>(&self, f: &mut fmt::Formatter<W>) -> fmt::Result {
-        let y = 168 + u16::from(self.row) * 12;
-        let source = SourceWord(self.source);
+    fn put<W: fmt::Write>(&self, source: Ranked, f: &mut fmt::Formatter<W>) -> fmt::Result {
+        let y = 168 + u16::from(source.rank) * 12;
+        let source = SourceWord(source_number(source.place));
         write!(
             f,
             "<text x=\"36\" y=\"{y}\" text-anchor=\"end\">{source}</text>\n"
-        )
-    }
-}
-
-/// The names in front of the rows.
-#[derive(Clone, Copy)]
-struct RowLabels<'a>(&'a ReportCounts);
-
-impl<'a> Parts for RowLabels<'a> {
-    ghost part = { λ labels source. row_at labels.0.now source };
-
-    #[tactic(auto, unfolding(crate::specs::Matrix::row_at))]
-    fn put<W: fmt::Write>(&self, source: u16, f: &mut fmt::Formatter<W>) -> fmt::Result {
-        match shown_rank(self.0, Side::Sources, source) {
-            Some(row) => {
-                let label = RowLabel {
-                    source: source_number(source),
-                    row,
-                };
-                write!(f, "{label}")
-            }
-            None => Ok(()),
-        }
-    }
-}
-
-/// The name above a column.
-#[derive(Clone, Copy)]
-struct ColumnLabel<'a> {
-    outlet: &'a [u8],
-    column: u8,
-}
-
-impl<'a> fmt::Display for ColumnLabel<'a> {
-    ghost output = { λ label. Some (column_label label.outlet.now label.column) };
-
-    #[tactic(auto, unfolding(crate::specs::Matrix::column_label))]
-    fn fmt<W: fmt::Write>(&self, f: &mut fmt::Formatter<W>) -> fmt::Result {
-        let x = 48 + u16::from(self.column) * 12;
-        let outlet = Escaped(self.outlet);
-        write!(
-            f,
-            "<text transform=\"translate({x} 156) rotate(-90)\">{outlet}</text>\n"
         )
     }
 }
@@ -96,21 +52,17 @@ impl<'a> fmt::Display for ColumnLabel<'a> {
 #[derive(Clone, Copy)]
 struct ColumnLabels<'a>(&'a ReportCounts);
 
-impl<'a> Parts for ColumnLabels<'a> {
-    ghost part = { λ labels outlet. column_at labels.0.now outlet };
+impl<'a> Parts<Ranked> for ColumnLabels<'a> {
+    ghost part = { λ labels outlet. column_label (name_of outlet.place labels.0.now.outlets.names) outlet.rank };
 
-    #[tactic(auto, unfolding(crate::specs::Matrix::column_at))]
-    fn put<W: fmt::Write>(&self, outlet: u16, f: &mut fmt::Formatter<W>) -> fmt::Result {
-        match shown_rank(self.0, Side::Outlets, outlet) {
-            Some(column) => {
-                let label = ColumnLabel {
-                    outlet: self.0.outlet_name(usize::from(outlet)),
-                    column,
-                };
-                write!(f, "{label}")
-            }
-            None => Ok(()),
-        }
+    #[tactic(auto, unfolding(crate::specs::Matrix::column_label))]
+    fn put<W: fmt::Write>(&self, outlet: Ranked, f: &mut fmt::Formatter<W>) -> fmt::Result {
+        let x = 48 + u16::from(outlet.rank) * 12;
+        let outlet = Escaped(self.0.outlet_name(usize::from(outlet.place)));
+        write!(
+            f,
+            "<text transform=\"translate({x} 156) rotate(-90)\">{outlet}</text>\n"
+        )
     }
 }
 
@@ -135,21 +87,14 @@ impl<'a> fmt::Display for PairsPicture<'a> {
     #[tactic(auto, unfolding(crate::specs::Matrix::pairs_picture))]
     fn fmt<W: fmt::Write>(&self, f: &mut fmt::Formatter<W>) -> fmt::Result {
         let height = self.height;
-        let rows = Each {
-            parts: RowLabels(self.counts),
-            count: 256,
+        let counts = self.counts;
+        let rows = Each(Shown(counts, Side::Sources, RowLabels), 256);
+        let columns = Each(Shown(counts, Side::Outlets, ColumnLabels(counts)), 513);
+        let squares = Squares {
+            counts,
+            most: self.most,
         };
-        let columns = Each {
-            parts: ColumnLabels(self.counts),
-            count: 513,
-        };
-        let squares = Each {
-            parts: Squares {
-                counts: self.counts,
-                most: self.most,
-            },
-            count: 256,
-        };
+        let squares = Each(Shown(counts, Side::Sources, squares), 256);
         write!(
             f,
             "{PAIRS_PICTURE}{height}{PAIRS_SHOWN}{rows}{columns}{squares}"
@@ -197,10 +142,7 @@ impl<'a> fmt::Display for Matrix<'a> {
             height: height_for(some_of(self.0, Side::Sources)),
             most: most_frames(self.0),
         };
-        let rows = Each {
-            parts: PairRows(self.0),
-            count: 256,
-        };
+        let rows = Each(Shown(self.0, Side::Sources, PairRows(self.0)), 256);
         write!(f, "{front}{picture}{PAIRS_TABLE}{rows}{PAIRS_END}")
     }
 }

@@ -1,7 +1,7 @@
 //! What came, left and was dropped over time.
 ghost use Rattle.std.specs.Prelude.{◌≡◌, Some};
 ghost use Rattle.report_counts.specs.Places.{width};
-ghost use Rattle.report_page.specs.OverTime.{begin_of, number_cell, over_time, span_cells, span_row};
+ghost use Rattle.report_page.specs.OverTime.{begin_of, number_cell, over_time, span_row};
 
 use crate::each::{Each, Parts};
 use crate::picture::{BarsPicture, StackedPicture};
@@ -62,80 +62,26 @@ fn begin_of(counts: &ReportCounts, span: u16) -> u64
     )
 }
 
-/// A sum of each span.
-fn all(counts: &ReportCounts, parted: Parted) -> Series<'_>
-    ensures counts { result.counts.now ≡ counts.now }
-    ensures kind { result.kind ≡ Kind.All parted }
-{
-    Series {
-        counts,
-        kind: Kind::All(parted),
-    }
-}
-
-/// What came from the underlay in each span.
-fn from_underlay(counts: &ReportCounts) -> Series<'_>
-    ensures counts { result.counts.now ≡ counts.now }
-    ensures kind { result.kind ≡ Kind.Came 256 }
-{
-    Series {
-        counts,
-        kind: Kind::Came(256),
-    }
-}
-
-/// The cells of a span: when it begins, and what came, left and was dropped.
-#[derive(Clone, Copy)]
-struct SpanCells {
-    span: u16,
-    begin: u64,
-    ports: u64,
-    underlay: u64,
-    local: u64,
-    remote: u64,
-    dropped: u64,
-}
-
-impl fmt::Display for SpanCells {
-    ghost output = { λ cells.
-        Some (span_cells cells.span cells.begin cells.ports cells.underlay cells.local cells.remote cells.dropped) };
-
-    #[tactic(auto, unfolding(crate::specs::OverTime::span_cells))]
-    fn fmt<W: fmt::Write>(&self, f: &mut fmt::Formatter<W>) -> fmt::Result {
-        let span = self.span;
-        let begin = NumberCell(self.begin);
-        let ports = NumberCell(self.ports);
-        let underlay = NumberCell(self.underlay);
-        let local = NumberCell(self.local);
-        let remote = NumberCell(self.remote);
-        let dropped = NumberCell(self.dropped);
-        write!(
-            f,
-            "<tr><th scope=\"row\">{span}</th>{begin}{ports}{underlay}{local}{remote}{dropped}</tr>\n"
-        )
-    }
-}
-
-/// The rows of the spans.
+/// The rows of the spans: when each begins, and what came, left and was dropped.
 #[derive(Clone, Copy)]
 struct SpanRows<'a>(&'a ReportCounts);
 
-impl<'a> Parts for SpanRows<'a> {
+impl<'a> Parts<u16> for SpanRows<'a> {
     ghost part = { λ rows span. span_row rows.0.now span };
 
     #[tactic(auto, unfolding(crate::specs::OverTime::span_row))]
     fn put<W: fmt::Write>(&self, span: u16, f: &mut fmt::Formatter<W>) -> fmt::Result {
         let counts = self.0;
-        let cells = SpanCells {
-            span,
-            begin: begin_of(counts, span),
-            ports: all(counts, Parted::Ports).number(span),
-            underlay: from_underlay(counts).number(span),
-            local: all(counts, Parted::LocalOutlets).number(span),
-            remote: all(counts, Parted::RemoteOutlets).number(span),
-            dropped: all(counts, Parted::Segments).number(span),
-        };
-        write!(f, "{cells}")
+        let begin = NumberCell(begin_of(counts, span));
+        let ports = NumberCell(Series(counts, Kind::All(Parted::Ports)).number(span));
+        let underlay = NumberCell(Series(counts, Kind::Came(256)).number(span));
+        let local = NumberCell(Series(counts, Kind::All(Parted::LocalOutlets)).number(span));
+        let remote = NumberCell(Series(counts, Kind::All(Parted::RemoteOutlets)).number(span));
+        let dropped = NumberCell(Series(counts, Kind::All(Parted::Segments)).number(span));
+        write!(
+            f,
+            "<tr><th scope=\"row\">{span}</th>{begin}{ports}{underlay}{local}{remote}{dropped}</tr>\n"
+        )
     }
 }
 
@@ -169,12 +115,9 @@ impl<'a> fmt::Display for OverTime<'a> {
         let dropped = BarsPicture {
             title: "What was dropped",
             colour: "c",
-            series: all(counts, Parted::Segments),
+            series: Series(counts, Kind::All(Parted::Segments)),
         };
-        let rows = Each {
-            parts: SpanRows(counts),
-            count: SPANS,
-        };
+        let rows = Each(SpanRows(counts), SPANS);
         write!(
             f,
             "{TIME_HEAD}{width} ns each.</p>\n{CAME_HEAD}{came}{LEFT_HEAD}{left}{DROPPED_HEAD}{dropped}{SPANS_HEAD}{rows}{SPANS_END}"

@@ -1,12 +1,13 @@
 //! The table of sources and outlets.
 ghost use Rattle.std.specs.Prelude.{Some};
-ghost use Rattle.report_page.specs.Matrix.{pair_cells, pair_in, pair_row, pairs_at};
+ghost use Rattle.report_page.specs.Matrix.{pair_cells, pair_row, pairs_of};
 
 use crate::each::{Each, Parts};
 use crate::escaped::Escaped;
 use crate::over_time::NumberCell;
 use crate::places::SourceWord;
-use crate::ranks::{Side, pair_at, shown_rank, source_number};
+use crate::ranks::{Side, pair_at, source_number};
+use crate::shown::{Ranked, Shown};
 use report_counts::{Pair, ReportCounts};
 use std::fmt;
 
@@ -34,32 +35,6 @@ impl<'a> fmt::Display for PairCells<'a> {
     }
 }
 
-/// The row of a source and an outlet.
-#[derive(Clone, Copy)]
-struct PairRow<'a> {
-    counts: &'a ReportCounts,
-    source: u16,
-    outlet: u16,
-}
-
-impl<'a> fmt::Display for PairRow<'a> {
-    ghost output = { λ row. Some (pair_row row.counts.now row.source row.outlet) };
-
-    #[tactic(auto, unfolding(crate::specs::Matrix::pair_row))]
-    fn fmt<W: fmt::Write>(&self, f: &mut fmt::Formatter<W>) -> fmt::Result {
-        let pair = pair_at(self.counts, self.source, self.outlet);
-        if pair.frames == 0 {
-            return Ok(());
-        }
-        let cells = PairCells {
-            source: source_number(self.source),
-            outlet: self.counts.outlet_name(usize::from(self.outlet)),
-            pair,
-        };
-        write!(f, "{cells}")
-    }
-}
-
 /// The rows of a source.
 #[derive(Clone, Copy)]
 struct PairsOf<'a> {
@@ -67,22 +42,21 @@ struct PairsOf<'a> {
     source: u16,
 }
 
-impl<'a> Parts for PairsOf<'a> {
-    ghost part = { λ rows outlet. pair_in rows.counts.now rows.source outlet };
+impl<'a> Parts<Ranked> for PairsOf<'a> {
+    ghost part = { λ rows outlet. pair_row rows.counts.now rows.source outlet.place };
 
-    #[tactic(auto, unfolding(crate::specs::Matrix::pair_in))]
-    fn put<W: fmt::Write>(&self, outlet: u16, f: &mut fmt::Formatter<W>) -> fmt::Result {
-        match shown_rank(self.counts, Side::Outlets, outlet) {
-            Some(_) => {
-                let row = PairRow {
-                    counts: self.counts,
-                    source: self.source,
-                    outlet,
-                };
-                write!(f, "{row}")
-            }
-            None => Ok(()),
+    #[tactic(auto, unfolding(crate::specs::Matrix::pair_row))]
+    fn put<W: fmt::Write>(&self, outlet: Ranked, f: &mut fmt::Formatter<W>) -> fmt::Result {
+        let pair = pair_at(self.counts, self.source, outlet.place);
+        if pair.frames == 0 {
+            return Ok(());
         }
+        let cells = PairCells {
+            source: source_number(self.source),
+            outlet: self.counts.outlet_name(usize::from(outlet.place)),
+            pair,
+        };
+        write!(f, "{cells}")
     }
 }
 
@@ -90,23 +64,15 @@ impl<'a> Parts for PairsOf<'a> {
 #[derive(Clone, Copy)]
 pub(crate) struct PairRows<'a>(pub &'a ReportCounts);
 
-impl<'a> Parts for PairRows<'a> {
-    ghost part = { λ rows source. pairs_at rows.0.now source };
+impl<'a> Parts<Ranked> for PairRows<'a> {
+    ghost part = { λ rows source. pairs_of rows.0.now source.place };
 
-    #[tactic(auto, unfolding(crate::specs::Matrix::pairs_at))]
-    fn put<W: fmt::Write>(&self, source: u16, f: &mut fmt::Formatter<W>) -> fmt::Result {
-        match shown_rank(self.0, Side::Sources, source) {
-            Some(_) => {
-                let rows = Each {
-                    parts: PairsOf {
-                        counts: self.0,
-                        source,
-                    },
-                    count: 513,
-                };
-                write!(f, "{rows}")
-            }
-            None => Ok(()),
-        }
+    fn put<W: fmt::Write>(&self, source: Ranked, f: &mut fmt::Formatter<W>) -> fmt::Result {
+        let pairs = PairsOf {
+            counts: self.0,
+            source: source.place,
+        };
+        let rows = Each(Shown(self.0, Side::Outlets, pairs), 513);
+        write!(f, "{rows}")
     }
 }

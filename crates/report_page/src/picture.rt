@@ -1,7 +1,7 @@
 //! Pictures of series.
-ghost use Rattle.std.specs.Prelude.{ℕ, ◌++◌, List, Some, codes, decimal};
+ghost use Rattle.std.specs.Prelude.{◌++◌, Some, codes, decimal};
 ghost use Rattle.report_page.specs.Path.{bar_text, height_of, point_text};
-ghost use Rattle.report_page.specs.Picture.{bars_picture, bars_text, line_text, list_text, path_text, picture_head, polyline_text};
+ghost use Rattle.report_page.specs.Picture.{bars_picture, bars_text, line_text, path_text, picture_head, polyline_text};
 ghost use Rattle.report_page.specs.Picture.{small_bars_cell, spark_cell, spark_end, spark_head, stacked_picture, upper_text};
 ghost use Rattle.report_page.specs.Series.{number_at};
 
@@ -17,8 +17,8 @@ struct Bars<'a> {
     most: u64,
 }
 
-impl<'a> Parts for Bars<'a> {
-    ghost part = { λ bars span. bar_text span 0 (height_of bars.most (number_at bars.series.counts.now bars.series.kind span)) };
+impl<'a> Parts<u16> for Bars<'a> {
+    ghost part = { λ bars span. bar_text span 0 (height_of bars.most (number_at bars.series.0.now bars.series.1 span)) };
 
     fn put<W: fmt::Write>(&self, span: u16, f: &mut fmt::Formatter<W>) -> fmt::Result {
         let bar = Bar {
@@ -37,16 +37,18 @@ struct UpperBars<'a> {
     most: u64,
 }
 
-impl<'a> Parts for UpperBars<'a> {
+impl<'a> Parts<u16> for UpperBars<'a> {
     ghost part = { λ bars span. bar_text span
         (height_of bars.most (number_at bars.both.counts.now bars.both.lower span))
         (height_of bars.most (number_at bars.both.counts.now bars.both.upper span)) };
 
     fn put<W: fmt::Write>(&self, span: u16, f: &mut fmt::Formatter<W>) -> fmt::Result {
+        let lower = Series(self.both.counts, self.both.lower);
+        let upper = Series(self.both.counts, self.both.upper);
         let bar = Bar {
             span,
-            floor: height_of(self.most, self.both.lower().number(span)),
-            height: height_of(self.most, self.both.upper().number(span)),
+            floor: height_of(self.most, lower.number(span)),
+            height: height_of(self.most, upper.number(span)),
         };
         write!(f, "{bar}")
     }
@@ -59,8 +61,8 @@ struct Points<'a> {
     most: u64,
 }
 
-impl<'a> Parts for Points<'a> {
-    ghost part = { λ line span. point_text span (height_of line.most (number_at line.series.counts.now line.series.kind span)) };
+impl<'a> Parts<u16> for Points<'a> {
+    ghost part = { λ line span. point_text span (height_of line.most (number_at line.series.0.now line.series.1 span)) };
 
     fn put<W: fmt::Write>(&self, span: u16, f: &mut fmt::Formatter<W>) -> fmt::Result {
         let point = Point {
@@ -75,8 +77,8 @@ impl<'a> Parts for Points<'a> {
 #[derive(Clone, Copy)]
 struct Listed<'a>(Series<'a>);
 
-impl<'a> Parts for Listed<'a> {
-    ghost part = { λ listed span. decimal (number_at listed.0.counts.now listed.0.kind span) ++ codes " " };
+impl<'a> Parts<u16> for Listed<'a> {
+    ghost part = { λ listed span. decimal (number_at listed.0.0.now listed.0.1 span) ++ codes " " };
 
     fn put<W: fmt::Write>(&self, span: u16, f: &mut fmt::Formatter<W>) -> fmt::Result {
         let number = self.0.number(span);
@@ -116,14 +118,11 @@ struct BarsPath<'a> {
 
 impl<'a> fmt::Display for BarsPath<'a> {
     ghost output = { λ path. Some (path_text path.colour.now
-        (bars_text path.bars.series.counts.now path.bars.series.kind path.bars.most)) };
+        (bars_text path.bars.series.0.now path.bars.series.1 path.bars.most)) };
 
     fn fmt<W: fmt::Write>(&self, f: &mut fmt::Formatter<W>) -> fmt::Result {
         let colour = self.colour;
-        let bars = Each {
-            parts: self.bars,
-            count: SPANS,
-        };
+        let bars = Each(self.bars, SPANS);
         write!(f, "<path class=\"{colour}\" d=\"{bars}\"/>")
     }
 }
@@ -137,10 +136,7 @@ impl<'a> fmt::Display for UpperPath<'a> {
         (upper_text path.0.both.counts.now path.0.both.lower path.0.both.upper path.0.most)) };
 
     fn fmt<W: fmt::Write>(&self, f: &mut fmt::Formatter<W>) -> fmt::Result {
-        let bars = Each {
-            parts: self.0,
-            count: SPANS,
-        };
+        let bars = Each(self.0, SPANS);
         write!(f, "<path class=\"b\" d=\"{bars}\"/>")
     }
 }
@@ -155,7 +151,7 @@ pub(crate) struct BarsPicture<'a> {
 
 impl<'a> fmt::Display for BarsPicture<'a> {
     ghost output = { λ picture.
-        Some (bars_picture picture.title.now picture.colour.now picture.series.counts.now picture.series.kind) };
+        Some (bars_picture picture.title.now picture.colour.now picture.series.0.now picture.series.1) };
 
     #[tactic(auto, unfolding(crate::specs::Picture::bars_picture))]
     fn fmt<W: fmt::Write>(&self, f: &mut fmt::Formatter<W>) -> fmt::Result {
@@ -197,7 +193,7 @@ impl<'a> fmt::Display for StackedPicture<'a> {
         let lower = BarsPath {
             colour: "a",
             bars: Bars {
-                series: self.both.lower(),
+                series: Series(self.both.counts, self.both.lower),
                 most,
             },
         };
@@ -214,13 +210,10 @@ impl<'a> fmt::Display for StackedPicture<'a> {
 struct SparkHead<'a>(Series<'a>);
 
 impl<'a> fmt::Display for SparkHead<'a> {
-    ghost output = { λ head. Some (spark_head head.0.counts.now head.0.kind) };
+    ghost output = { λ head. Some (spark_head head.0.0.now head.0.1) };
 
     fn fmt<W: fmt::Write>(&self, f: &mut fmt::Formatter<W>) -> fmt::Result {
-        let numbers = Each {
-            parts: Listed(self.0),
-            count: SPANS,
-        };
+        let numbers = Each(Listed(self.0), SPANS);
         write!(
             f,
             "<td><svg class=\"spark\" viewBox=\"0 0 640 1000\" preserveAspectRatio=\"none\" role=\"img\">\
@@ -234,13 +227,10 @@ impl<'a> fmt::Display for SparkHead<'a> {
 struct SparkEnd<'a>(Series<'a>);
 
 impl<'a> fmt::Display for SparkEnd<'a> {
-    ghost output = { λ end. Some (spark_end end.0.counts.now end.0.kind) };
+    ghost output = { λ end. Some (spark_end end.0.0.now end.0.1) };
 
     fn fmt<W: fmt::Write>(&self, f: &mut fmt::Formatter<W>) -> fmt::Result {
-        let numbers = Each {
-            parts: Listed(self.0),
-            count: SPANS,
-        };
+        let numbers = Each(Listed(self.0), SPANS);
         write!(
             f,
             "</svg><details><summary>Numbers</summary><p>{numbers}</p></details></td>"
@@ -253,13 +243,10 @@ impl<'a> fmt::Display for SparkEnd<'a> {
 struct Line<'a>(Points<'a>);
 
 impl<'a> fmt::Display for Line<'a> {
-    ghost output = { λ line. Some (polyline_text (line_text line.0.series.counts.now line.0.series.kind line.0.most)) };
+    ghost output = { λ line. Some (polyline_text (line_text line.0.series.0.now line.0.series.1 line.0.most)) };
 
     fn fmt<W: fmt::Write>(&self, f: &mut fmt::Formatter<W>) -> fmt::Result {
-        let points = Each {
-            parts: self.0,
-            count: SPANS,
-        };
+        let points = Each(self.0, SPANS);
         write!(f, "<polyline points=\"{points}\"/>")
     }
 }
@@ -269,7 +256,7 @@ impl<'a> fmt::Display for Line<'a> {
 pub(crate) struct SparkCell<'a>(pub Series<'a>);
 
 impl<'a> fmt::Display for SparkCell<'a> {
-    ghost output = { λ cell. Some (spark_cell cell.0.counts.now cell.0.kind) };
+    ghost output = { λ cell. Some (spark_cell cell.0.0.now cell.0.1) };
 
     #[tactic(auto, unfolding(crate::specs::Picture::spark_cell))]
     fn fmt<W: fmt::Write>(&self, f: &mut fmt::Formatter<W>) -> fmt::Result {
@@ -285,25 +272,22 @@ impl<'a> fmt::Display for SparkCell<'a> {
 
 /// The cell of a small picture of bars, and of its numbers.
 #[derive(Clone, Copy)]
-pub(crate) struct SmallBarsCell<'a> {
-    pub colour: &'static str,
-    pub series: Series<'a>,
-}
+pub(crate) struct SmallBarsCell<'a>(pub &'static str, pub Series<'a>);
 
 impl<'a> fmt::Display for SmallBarsCell<'a> {
-    ghost output = { λ cell. Some (small_bars_cell cell.colour.now cell.series.counts.now cell.series.kind) };
+    ghost output = { λ cell. Some (small_bars_cell cell.0.now cell.1.0.now cell.1.1) };
 
     #[tactic(auto, unfolding(crate::specs::Picture::small_bars_cell))]
     fn fmt<W: fmt::Write>(&self, f: &mut fmt::Formatter<W>) -> fmt::Result {
-        let head = SparkHead(self.series);
+        let head = SparkHead(self.1);
         let path = BarsPath {
-            colour: self.colour,
+            colour: self.0,
             bars: Bars {
-                series: self.series,
-                most: greatest(&self.series, SPANS),
+                series: self.1,
+                most: greatest(&self.1, SPANS),
             },
         };
-        let end = SparkEnd(self.series);
+        let end = SparkEnd(self.1);
         write!(f, "{head}{path}{end}")
     }
 }

@@ -47,7 +47,7 @@ impl fmt::Display for SourceWord {
 #[derive(Clone, Copy)]
 struct CameRows<'a>(&'a ReportCounts);
 
-impl<'a> Parts for CameRows<'a> {
+impl<'a> Parts<u16> for CameRows<'a> {
     ghost part = { λ rows source. came_row rows.0.now source };
 
     #[tactic(auto, unfolding(crate::specs::Places::came_row))]
@@ -58,10 +58,7 @@ impl<'a> Parts for CameRows<'a> {
         }
         let word = SourceWord(source);
         let came = NumberCell(came);
-        let spark = SparkCell(Series {
-            counts: self.0,
-            kind: Kind::Came(source),
-        });
+        let spark = SparkCell(Series(self.0, Kind::Came(source)));
         write!(f, "<tr><th scope=\"row\">{word}</th>{came}{spark}</tr>\n")
     }
 }
@@ -70,7 +67,7 @@ impl<'a> Parts for CameRows<'a> {
 #[derive(Clone, Copy)]
 struct LeftRows<'a>(&'a ReportCounts);
 
-impl<'a> Parts for LeftRows<'a> {
+impl<'a> Parts<u16> for LeftRows<'a> {
     ghost part = { λ rows outlet. left_row rows.0.now outlet };
 
     #[tactic(auto, unfolding(crate::specs::Places::left_row))]
@@ -83,10 +80,7 @@ impl<'a> Parts for LeftRows<'a> {
         let frames = NumberCell(counts.frames);
         let octets = NumberCell(counts.octets);
         let faults = NumberCell(counts.faults);
-        let spark = SparkCell(Series {
-            counts: self.0,
-            kind: Kind::Left(outlet),
-        });
+        let spark = SparkCell(Series(self.0, Kind::Left(outlet)));
         write!(
             f,
             "<tr><th scope=\"row\">{name}</th>{frames}{octets}{faults}{spark}</tr>\n"
@@ -103,14 +97,8 @@ impl<'a> fmt::Display for Places<'a> {
 
     #[tactic(auto, unfolding(crate::specs::Places::places_text))]
     fn fmt<W: fmt::Write>(&self, f: &mut fmt::Formatter<W>) -> fmt::Result {
-        let came = Each {
-            parts: CameRows(self.0),
-            count: 257,
-        };
-        let left = Each {
-            parts: LeftRows(self.0),
-            count: 513,
-        };
+        let came = Each(CameRows(self.0), 257);
+        let left = Each(LeftRows(self.0), 513);
         write!(f, "{CAME_HEAD}{came}{LEFT_HEAD}{left}{PLACES_END}")
     }
 }

@@ -1,52 +1,6 @@
-//! The reasons of drops, and what each means.
+//! What each reason of a drop means.
 
-use frame_view::Reason;
-
-/// The reasons, their numbers rising.
-pub(crate) const REASONS: [Reason; 40] = [
-    Reason::TooLong,
-    Reason::Sliced,
-    Reason::Runt,
-    Reason::PortDown,
-    Reason::BadSource,
-    Reason::Reserved,
-    Reason::CutTag,
-    Reason::BadVid,
-    Reason::FrameType,
-    Reason::NoSegment,
-    Reason::NotMember,
-    Reason::NotIp,
-    Reason::BadIp,
-    Reason::BadIpSum,
-    Reason::BadOuterSource,
-    Reason::NotForUs,
-    Reason::Fragment,
-    Reason::NotUdp,
-    Reason::BadUdp,
-    Reason::NotTunnel,
-    Reason::ZeroSum,
-    Reason::BadUdpSum,
-    Reason::ShortTunnel,
-    Reason::NoVniFlag,
-    Reason::BadVersion,
-    Reason::Control,
-    Reason::NotEthernet,
-    Reason::BadOptions,
-    Reason::CriticalOption,
-    Reason::UnknownVni,
-    Reason::WrongGroup,
-    Reason::UnknownPeer,
-    Reason::InnerRunt,
-    Reason::InnerTag,
-    Reason::SamePlace,
-    Reason::Horizon,
-    Reason::Unreachable,
-    Reason::NoOutlet,
-    Reason::TooBig,
-    Reason::InnerTagOut,
-];
-
-/// What each of them means, and what to look at.
+/// What each reason means, and what to look at, in the order of the reasons' numbers.
 pub(crate) const SENTENCES: [&str; 40] = [
     "A record with more octets than a frame (65,535) or an outer packet (65,549) may have; look at how the capture \
     was made: offloads merge segments before the capture sees them.",

@@ -42,53 +42,29 @@ pub(crate) fn segment_at(place: u16) -> u16
     ((u32::from(place) + 1) % 4095) as u16
 }
 
-/// The row of a segment.
+/// The rows of the segments to which something came.
 #[derive(Clone, Copy)]
-struct SegmentRow<'a> {
-    counts: &'a ReportCounts,
-    vid: u16,
-}
+struct SegmentRows<'a>(&'a ReportCounts);
 
-impl<'a> fmt::Display for SegmentRow<'a> {
-    ghost output = { λ row. Some (segment_row row.counts.now row.vid) };
+impl<'a> Parts<u16> for SegmentRows<'a> {
+    ghost part = { λ rows place. segment_row rows.0.now (segment_at place) };
 
     #[tactic(auto, unfolding(crate::specs::Segments::segment_row))]
-    fn fmt<W: fmt::Write>(&self, f: &mut fmt::Formatter<W>) -> fmt::Result {
-        let counts = self.counts.segment(usize::from(self.vid));
+    fn put<W: fmt::Write>(&self, place: u16, f: &mut fmt::Formatter<W>) -> fmt::Result {
+        let vid = segment_at(place);
+        let counts = self.0.segment(usize::from(vid));
         if counts.events == 0 {
             return Ok(());
         }
-        let word = SegmentWord(self.vid);
+        let word = SegmentWord(vid);
         let events = NumberCell(counts.events);
         let sent = NumberCell(counts.sent);
         let dropped = NumberCell(counts.dropped);
-        let bars = SmallBarsCell {
-            colour: "a",
-            series: Series {
-                counts: self.counts,
-                kind: Kind::Events(self.vid),
-            },
-        };
+        let bars = SmallBarsCell("a", Series(self.0, Kind::Events(vid)));
         write!(
             f,
             "<tr><th scope=\"row\">{word}</th>{events}{sent}{dropped}{bars}</tr>\n"
         )
-    }
-}
-
-/// The rows of all segments.
-#[derive(Clone, Copy)]
-struct SegmentRows<'a>(&'a ReportCounts);
-
-impl<'a> Parts for SegmentRows<'a> {
-    ghost part = { λ rows place. segment_row rows.0.now (segment_at place) };
-
-    fn put<W: fmt::Write>(&self, place: u16, f: &mut fmt::Formatter<W>) -> fmt::Result {
-        let row = SegmentRow {
-            counts: self.0,
-            vid: segment_at(place),
-        };
-        write!(f, "{row}")
     }
 }
 
@@ -101,10 +77,7 @@ impl<'a> fmt::Display for Segments<'a> {
 
     #[tactic(auto, unfolding(crate::specs::Segments::segments_text))]
     fn fmt<W: fmt::Write>(&self, f: &mut fmt::Formatter<W>) -> fmt::Result {
-        let rows = Each {
-            parts: SegmentRows(self.0),
-            count: 4095,
-        };
+        let rows = Each(SegmentRows(self.0), 4095);
         write!(f, "{SEGMENTS_HEAD}{rows}{SEGMENTS_END}")
     }
 }

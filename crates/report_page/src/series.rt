@@ -131,26 +131,24 @@ fn parts_of(parted: Parted) -> u16
     }
 }
 
-/// What is counted in each span.
+/// What is counted of a kind in each span.
 #[derive(Clone, Copy)]
-pub(crate) struct Series<'a> {
-    pub counts: &'a ReportCounts,
-    pub kind: Kind,
-}
+pub(crate) struct Series<'a>(pub &'a ReportCounts, pub Kind);
 
 impl<'a> Numbers for Series<'a> {
-    ghost number = { λ series span. number_at series.counts.now series.kind span };
+    ghost number = { λ series span. number_at series.0.now series.1 span };
 
     fn number(&self, span: u16) -> u64 {
+        let counts = self.0;
         let at = usize::from(span);
-        match self.kind {
-            Kind::Came(source) => self.counts.came_at(usize::from(source), at),
-            Kind::Left(outlet) => self.counts.left_at(usize::from(outlet), at),
-            Kind::Events(vid) => self.counts.segment_at(usize::from(vid), at),
-            Kind::Reason(reason) => self.counts.reason_at(reason, at),
+        match self.1 {
+            Kind::Came(source) => counts.came_at(usize::from(source), at),
+            Kind::Left(outlet) => counts.left_at(usize::from(outlet), at),
+            Kind::Events(vid) => counts.segment_at(usize::from(vid), at),
+            Kind::Reason(reason) => counts.reason_at(reason, at),
             Kind::All(parted) => together(
                 &PartsAt {
-                    counts: self.counts,
+                    counts,
                     parted,
                     span,
                 },
@@ -168,36 +166,12 @@ pub(crate) struct Both<'a> {
     pub upper: Kind,
 }
 
-impl<'a> Both<'a> {
-    /// The one.
-    pub(crate) fn lower(&self) -> Series<'a>
-        ensures counts { result.counts.now ≡ self.now.counts.now }
-        ensures kind { result.kind ≡ self.now.lower }
-    {
-        Series {
-            counts: self.counts,
-            kind: self.lower,
-        }
-    }
-
-    /// The other.
-    pub(crate) fn upper(&self) -> Series<'a>
-        ensures counts { result.counts.now ≡ self.now.counts.now }
-        ensures kind { result.kind ≡ self.now.upper }
-    {
-        Series {
-            counts: self.counts,
-            kind: self.upper,
-        }
-    }
-}
-
 impl<'a> Numbers for Both<'a> {
     ghost number = { λ both span. sum_of (number_at both.counts.now both.lower span) (number_at both.counts.now both.upper span) };
 
     fn number(&self, span: u16) -> u64 {
-        let lower = self.lower();
-        let upper = self.upper();
+        let lower = Series(self.counts, self.lower);
+        let upper = Series(self.counts, self.upper);
         sum_of(lower.number(span), upper.number(span))
     }
 }

@@ -1,13 +1,13 @@
 //! The squares of a picture of sources and outlets.
 ghost use Rattle.std.specs.Prelude.{◌≡◌, Some};
-ghost use Rattle.std.specs.Fmt.{WritesOnOk};
-ghost use Rattle.report_page.specs.Matrix.{shade_of, square_at, square_box, square_of, square_title, squares_at};
+ghost use Rattle.report_page.specs.Matrix.{shade_of, square_box, square_of, square_title, squares_of};
 
 use crate::each::{Each, Parts};
 use crate::escaped::Escaped;
 use crate::path::height_of;
 use crate::places::SourceWord;
-use crate::ranks::{Side, pair_at, shown_rank, source_number};
+use crate::ranks::{Side, pair_at, source_number};
+use crate::shown::{Ranked, Shown};
 use report_counts::ReportCounts;
 use std::fmt;
 
@@ -63,45 +63,26 @@ struct SquaresOf<'a> {
     row: u8,
 }
 
-impl<'a> SquaresOf<'a> {
-    /// The square in the column of an outlet, where there were so many frames.
+impl<'a> Parts<Ranked> for SquaresOf<'a> {
+    ghost part = { λ s outlet. square_of s.counts.now s.most s.source s.row outlet.place outlet.rank };
+
     #[tactic(auto, unfolding(crate::specs::Matrix::square_of))]
-    fn put_square<W: fmt::Write>(
-        &self,
-        outlet: u16,
-        column: u8,
-        f: &mut fmt::Formatter<W>,
-    ) -> fmt::Result
-        ensures { WritesOnOk W.write_str_gives f.old result
-            (square_of self.now.counts.now self.now.most self.now.source self.now.row outlet column) f.new }
-    {
-        let frames = pair_at(self.counts, self.source, outlet).frames;
+    fn put<W: fmt::Write>(&self, outlet: Ranked, f: &mut fmt::Formatter<W>) -> fmt::Result {
+        let frames = pair_at(self.counts, self.source, outlet.place).frames;
         if frames == 0 {
             return Ok(());
         }
         let square = SquareBox {
-            x: 40 + u16::from(column) * 12,
+            x: 40 + u16::from(outlet.rank) * 12,
             y: 160 + u16::from(self.row) * 12,
             shade: shade_of(self.most, frames),
         };
         let title = SquareTitle {
             source: source_number(self.source),
-            outlet: self.counts.outlet_name(usize::from(outlet)),
+            outlet: self.counts.outlet_name(usize::from(outlet.place)),
             frames,
         };
         write!(f, "{square}{title}")
-    }
-}
-
-impl<'a> Parts for SquaresOf<'a> {
-    ghost part = { λ s outlet. square_at s.counts.now s.most s.source s.row outlet };
-
-    #[tactic(auto, unfolding(crate::specs::Matrix::square_at))]
-    fn put<W: fmt::Write>(&self, outlet: u16, f: &mut fmt::Formatter<W>) -> fmt::Result {
-        match shown_rank(self.counts, Side::Outlets, outlet) {
-            Some(column) => self.put_square(outlet, column, f),
-            None => Ok(()),
-        }
     }
 }
 
@@ -119,25 +100,17 @@ pub(crate) struct Squares<'a> {
     pub most: u64,
 }
 
-impl<'a> Parts for Squares<'a> {
-    ghost part = { λ s source. squares_at s.counts.now s.most source };
+impl<'a> Parts<Ranked> for Squares<'a> {
+    ghost part = { λ s source. squares_of s.counts.now s.most source.place source.rank };
 
-    #[tactic(auto, unfolding(crate::specs::Matrix::squares_at))]
-    fn put<W: fmt::Write>(&self, source: u16, f: &mut fmt::Formatter<W>) -> fmt::Result {
-        match shown_rank(self.counts, Side::Sources, source) {
-            Some(row) => {
-                let squares = Each {
-                    parts: SquaresOf {
-                        counts: self.counts,
-                        most: self.most,
-                        source,
-                        row,
-                    },
-                    count: 513,
-                };
-                write!(f, "{squares}")
-            }
-            None => Ok(()),
-        }
+    fn put<W: fmt::Write>(&self, source: Ranked, f: &mut fmt::Formatter<W>) -> fmt::Result {
+        let squares = SquaresOf {
+            counts: self.counts,
+            most: self.most,
+            source: source.place,
+            row: source.rank,
+        };
+        let row = Each(Shown(self.counts, Side::Outlets, squares), 513);
+        write!(f, "{row}")
     }
 }

@@ -1,10 +1,15 @@
 //! Stations and tables, of the lines that `tep run` printed.
-ghost use Rattle.std.specs.Prelude.{◌≡◌, Some, length, take};
-ghost use Rattle.report_page.specs.Told.{compared_with, entries_table, entry_row, has_colon, is_colon, is_entry, moves_of, moves_told};
+ghost use Rattle.std.specs.Prelude.{◌≡◌, ℕ, List, Some, false, length, take};
+ghost use Rattle.std.specs.Fmt.{WritesOnOk};
+ghost use Rattle.std.specs.List.{list_any};
+ghost use Rattle.report_page.specs.Lines.{lines_where};
+ghost use Rattle.report_page.specs.Senders.{moved_among, sends};
+ghost use Rattle.report_page.specs.Told.{entries_table, entry_row, has_colon, is_colon, is_elsewhere, is_entry, moves_told};
 ghost use Rattle.report_page.specs.Told.{talks_of, talks_table, told_text};
 
 use crate::chosen::{Choice, FirstRows, count_of};
-use crate::moves::{Moves, moves_of};
+use crate::moves::Moves;
+use crate::senders::{Senders, senders_of};
 use crate::talks::{LargestRows, Talks};
 use crate::told_rows::EntryRow;
 use line_words::{behind_word, first_word};
@@ -113,7 +118,7 @@ struct MovesTable<'a> {
 }
 
 impl<'a> fmt::Display for MovesTable<'a> {
-    ghost output = { λ table. Some (moves_told table.count (compared_with table.rows.choice) table.rows.text.now) };
+    ghost output = { λ table. Some (moves_told table.count (moved_among table.rows.choice.senders.now) table.rows.text.now) };
 
     #[tactic(auto, unfolding(crate::specs::Told::moves_told))]
     fn fmt<W: fmt::Write>(&self, f: &mut fmt::Formatter<W>) -> fmt::Result {
@@ -126,13 +131,13 @@ impl<'a> fmt::Display for MovesTable<'a> {
     }
 }
 
-/// Those of a text.
-fn moves_table(text: &[u8]) -> MovesTable<'_>
-    ensures count { result.count ≡ length (moves_of text.now) }
-    ensures talks { compared_with result.rows.choice ≡ take 4096 (talks_of text.now) }
+/// Those of a text, among these senders.
+fn moves_table<'a>(text: &'a [u8], senders: &'a Senders<'a>) -> MovesTable<'a>
+    ensures count { result.count ≡ length (lines_where (moved_among senders.now) text.now) }
+    ensures senders { result.rows.choice.senders.now ≡ senders.now }
     ensures text { result.rows.text.now ≡ text.now }
 {
-    let choice = moves_of(text);
+    let choice = Moves { senders };
     MovesTable {
         count: count_of(&choice, text),
         rows: FirstRows { choice, text },
@@ -163,11 +168,25 @@ pub(crate) struct Told<'a>(pub &'a [u8]);
 impl<'a> fmt::Display for Told<'a> {
     ghost output = { λ section. Some (told_text section.0.now) };
 
-    #[tactic(auto, unfolding(crate::specs::Told::told_text))]
     fn fmt<W: fmt::Write>(&self, f: &mut fmt::Formatter<W>) -> fmt::Result {
-        let talks = TalksTable(self.0);
-        let moves = moves_table(self.0);
-        let entries = EntriesTable(self.0);
-        write!(f, "{STATIONS_HEAD}{talks}{moves}{entries}{STATIONS_END}")
+        let senders = senders_of(self.0);
+        put_told(self.0, &senders, f)
     }
+}
+
+/// Puts all three tables, by the senders of the talks.
+#[tactic(auto, unfolding(crate::specs::Told::told_text))]
+fn put_told<'a, W: fmt::Write>(
+    text: &'a [u8],
+    senders: &'a Senders<'a>,
+    f: &mut fmt::Formatter<W>,
+) -> fmt::Result
+    requires { (segment source place : List ℕ) → list_any (sends false segment source place) senders.now
+        ≡ list_any (is_elsewhere segment source place) (take 4096 (talks_of text.now)) }
+    ensures { WritesOnOk W.write_str_gives f.old result (told_text text.now) f.new }
+{
+    let talks = TalksTable(text);
+    let moves = moves_table(text, senders);
+    let entries = EntriesTable(text);
+    write!(f, "{STATIONS_HEAD}{talks}{moves}{entries}{STATIONS_END}")
 }

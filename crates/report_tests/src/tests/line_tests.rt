@@ -2,6 +2,7 @@
 use report_counts::{EventLine, Outcome, Outcomes, Passage, ReportLine, read_line};
 use std::alloc::Global;
 use std::test::Fail;
+use test_inputs::three_cells;
 
 /// Lines: what each is, the line without its end, and what is read from it, or its fault.
 fn rows<'a>() -> &'a str {
@@ -87,8 +88,7 @@ fn told(alloc: Global, line: &[u8]) -> Result<String, Fail> {
 #[test]
 fn reads_a_line_as_it_is_written(rt: HostRuntime) -> Result<(), Fail> {
     for row in rows().lines() {
-        let (name, rest) = row.split_once(" | ").ok_or("a name")?;
-        let (line, wanted) = rest.split_once(" | ").ok_or("what is told")?;
+        let (name, line, wanted) = three_cells(row)?;
         let text = format!(in rt.alloc(); "{line}\n")?;
         let found = told(rt.alloc(), text.as_bytes())?;
         assert_eq!(rt; found.as_str(), wanted, "{name}");

@@ -10,5 +10,5 @@ loop-index-init g c = search rules
 
 pub loop-index-preserved : goal.loop-index-preserved
 loop-index-preserved g c = λ plain.
-    has_written_of_eq _ _ _ _ _ (each_more (g.P.Parts.part c.args.self.now.parts) c.loop-index.index)
+    has_written_of_eq _ _ _ _ _ (each_more (g.P.Parts.part c.args.self.now.0) c.loop-index.index)
     (has_written_append _ _ _ _ _ _ (c.loop-index.invariant plain) (search rules))

@@ -5,4 +5,4 @@ use Rattle.report_page.proofs.each.EachDisplay.fmt.Given as goal
 -- the texts of the numbers so far
 abbrev pub invariant-loop-index : goal.invariant-loop-index
 invariant-loop-index g l =
-    IsPlainFormatter l.initial.f → HasWritten g.W.Write.write_str_gives l.initial.f (each (g.P.Parts.part l.self.parts) l.index) l.f
+    IsPlainFormatter l.initial.f → HasWritten g.W.Write.write_str_gives l.initial.f (each (g.P.Parts.part l.self.0) l.index) l.f

@@ -23,7 +23,7 @@ use Rattle.underlay.specs.Overlay.{Overlay, segment_of, are_free, flood_at, tunn
 use Rattle.underlay.specs.declared.segment.Segment.{Segment}
 use Rattle.overlay_settings.specs.declared.change.NewSegment.{NewSegment}
 use Rattle.overlay_settings.specs.declared.change.Change.{Change}
-use Rattle.overlay_settings.specs.declared.change.Change.TheVariants.{AddFlood, RemoveFlood, Fix, Unfix, SetAgeing, SetLearning, SetMember, PortUp, PortDown, Flush, AddSegment, RemoveSegment, SetLimit}
+use Rattle.overlay_settings.specs.declared.change.Change.TheVariants.{AddSegment}
 use Rattle.filter_db.specs.Standing.{segment_count}
 use Rattle.endpoint_state.specs.declared.fault.ChangeFault.{ChangeFault}
 use Rattle.endpoint_state.specs.declared.fault.ChangeFault.TheVariants.{OutOfRange, SegmentThere, PoolFull, SegmentsFull}
@@ -61,24 +61,16 @@ Keeps-flooded S vid change (Some s) = record { underlay = refl; tunnels = λ w k
 
 -- a segment comes or goes
 abbrev pub moves : Effect → Bool
-moves (ToFlood vid change) = false
-moves (ToBridge vid change) = false
-moves (ToLimit vid limit) = false
-moves (ToMembers vid port egress) = false
-moves (ToPort port up) = false
 moves (Comes new) = true
 moves (Goes vid) = true
-moves ToNothing = false
+moves other = false
 
 Keeps-applied : (e : Effect) (S : Settings) → moves e ≡ false → Keeps (applied e S) S
 Keeps-applied (ToFlood vid change) S stays = Keeps-flooded S vid change (segment_at S vid)
-Keeps-applied (ToBridge vid change) S stays = record { underlay = refl; tunnels = λ w kind. refl }
-Keeps-applied (ToLimit vid limit) S stays = record { underlay = refl; tunnels = λ w kind. refl }
-Keeps-applied (ToMembers vid port egress) S stays = record { underlay = refl; tunnels = λ w kind. refl }
-Keeps-applied (ToPort port up) S stays = record { underlay = refl; tunnels = λ w kind. refl }
 Keeps-applied (Comes new) S stays = absurd (false≢true (sym stays))
 Keeps-applied (Goes vid) S stays = absurd (false≢true (sym stays))
 Keeps-applied ToNothing S stays = Keeps-itself S
+Keeps-applied e S stays = record { underlay = refl; tunnels = λ w kind. refl }
 
 pub Keeps-accepted : (S : Settings) (c : Change) → moves (effect c) ≡ false → Keeps (accepted S c) S
 Keeps-accepted S c stays = Keeps-applied (effect c) S stays
@@ -157,28 +149,11 @@ new-vnis S new none = third_true (is_limit S.overlay.underlay.limits.entries new
 
 abbrev AddsVnis : Effect → Type 0
 AddsVnis (Comes new) = are_vnis new.tunnels ≡ true
-AddsVnis (ToFlood vid change) = Unit {0}
-AddsVnis (ToBridge vid change) = Unit {0}
-AddsVnis (ToLimit vid limit) = Unit {0}
-AddsVnis (ToMembers vid port egress) = Unit {0}
-AddsVnis (ToPort port up) = Unit {0}
-AddsVnis (Goes vid) = Unit {0}
-AddsVnis ToNothing = Unit {0}
+AddsVnis e = Unit {0}
 
 adds-vnis : (S : Settings) (c : Change) → refused S c ≡ None → AddsVnis (effect c)
 adds-vnis S (AddSegment new) none = new-vnis S new none
-adds-vnis S (AddFlood vid addr tunnel) none = tt
-adds-vnis S (RemoveFlood vid addr tunnel) none = tt
-adds-vnis S (Fix vid mac goal) none = tt
-adds-vnis S (Unfix vid mac) none = tt
-adds-vnis S (SetAgeing vid seconds) none = tt
-adds-vnis S (SetLearning vid on) none = tt
-adds-vnis S (SetMember vid port egress) none = tt
-adds-vnis S (PortUp port) none = tt
-adds-vnis S (PortDown port) none = tt
-adds-vnis S (Flush vid) none = tt
-adds-vnis S (RemoveSegment vid) none = tt
-adds-vnis S (SetLimit vid limit) none = tt
+adds-vnis S c none = tt
 
 Stays-applied : (e : Effect) (S : Settings) → AddsVnis e → Stays (applied e S) S
 Stays-applied (ToFlood vid change) S typed = Stays-kept _ S (Keeps-applied (ToFlood vid change) S refl)

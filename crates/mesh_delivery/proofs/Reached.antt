@@ -148,17 +148,9 @@ flood-accepted S (AddFlood vid addr tunnel) stays all none w =
     flood-of S vid (λ s. s.flood ++ record { tunnel = kind_in s.tunnels tunnel; addr = addr } ∷ []) all (segment_at S vid) (λ s is. added-reached S vid addr tunnel s is none (own-flood S vid s all is)) w
 flood-accepted S (RemoveFlood vid addr tunnel) stays all none w =
     flood-of S vid (λ s. without s.flood (kind_in s.tunnels tunnel) addr) all (segment_at S vid) (λ s is. reached-without S.overlay vid s.flood (kind_in s.tunnels tunnel) addr (own-flood S vid s all is)) w
-flood-accepted S (SetAgeing vid seconds) stays all none w = all w
-flood-accepted S (SetLearning vid on) stays all none w = all w
-flood-accepted S (SetMember vid port egress) stays all none w = all w
-flood-accepted S (PortUp port) stays all none w = all w
-flood-accepted S (PortDown port) stays all none w = all w
-flood-accepted S (Fix vid mac goal) stays all none w = all w
-flood-accepted S (Unfix vid mac) stays all none w = all w
-flood-accepted S (Flush vid) stays all none w = all w
-flood-accepted S (SetLimit vid limit) stays all none w = all w
 flood-accepted S (AddSegment new) stays all none w = absurd (false≢true (sym stays))
 flood-accepted S (RemoveSegment vid) stays all none w = absurd (false≢true (sym stays))
+flood-accepted S c stays all none w = all w
 
 emptied : (O : Overlay) (w : ℕ) (b : Bool) (m : Table) → AreReached O w m → AreReached O w (cond b empty m)
 emptied O w true m h = empty-reached O w
@@ -274,17 +266,7 @@ Knows-goes t vid B k = record {
 Knows-moved : (t : ℕ) (c : Change) (B : Bridges) → moves (effect c) ≡ true → refused B.settings c ≡ None → Knows B → Knows (accepted_state t c B)
 Knows-moved t (AddSegment new) B moved none k = Knows-comes t new B none k
 Knows-moved t (RemoveSegment vid) B moved none k = Knows-goes t vid B k
-Knows-moved t (AddFlood vid addr tunnel) B moved none k = absurd (false≢true moved)
-Knows-moved t (RemoveFlood vid addr tunnel) B moved none k = absurd (false≢true moved)
-Knows-moved t (Fix vid mac goal) B moved none k = absurd (false≢true moved)
-Knows-moved t (Unfix vid mac) B moved none k = absurd (false≢true moved)
-Knows-moved t (SetAgeing vid seconds) B moved none k = absurd (false≢true moved)
-Knows-moved t (SetLearning vid on) B moved none k = absurd (false≢true moved)
-Knows-moved t (SetMember vid port egress) B moved none k = absurd (false≢true moved)
-Knows-moved t (PortUp port) B moved none k = absurd (false≢true moved)
-Knows-moved t (PortDown port) B moved none k = absurd (false≢true moved)
-Knows-moved t (Flush vid) B moved none k = absurd (false≢true moved)
-Knows-moved t (SetLimit vid limit) B moved none k = absurd (false≢true moved)
+Knows-moved t c B moved none k = absurd (false≢true moved)
 
 -- ---- any change
 

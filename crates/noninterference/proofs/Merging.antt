@@ -9,7 +9,7 @@ use Rattle.pcap_io.specs.Reading.{Reading}
 use Rattle.pcap_io.specs.Record.{Record}
 use Rattle.pcap_io.specs.declared.header.CaptureFault.{CaptureFault}
 use Rattle.timeline.proofs.KnownEvents.{all-append}
-use Rattle.timeline.proofs.Orders.{all_merged, rising_merged}
+use Rattle.timeline.proofs.Orders.{all-put_in, all_merged, rising_merged}
 use Rattle.timeline.specs.Events.{all_events, change_events, events_of, record_events}
 use Rattle.timeline.specs.Faults.{faults_of}
 use Rattle.timeline.specs.Inputs.{inputs, inputs_from, opened_by, opened_captures}
@@ -45,14 +45,6 @@ Sooner e f = (e.moment ≤ f.moment) × (e.moment ≡ f.moment → Ties e f)
 sooner_all : (e f : Happens) (gs : List Happens) → e.moment ≤ f.moment → AllByRecursion (Sooner f) gs → AllByRecursion (Ties e) gs → AllByRecursion (Sooner e) gs
 sooner_all e f [] le h ties = tt
 sooner_all e f (g ∷ gs) le h ties = ((omega (arith, h.0.0), λ same. ties.0), sooner_all e f gs le h.1 ties.1)
-
-all-put_in : (P : Happens → Type 0) (e : Happens) (es : List Happens) → P e → AllByRecursion P es → AllByRecursion P (put_in e es)
-all-put_in P e [] p h = (p, tt)
-all-put_in P e (f ∷ fs) p h = by (nat_lt f.moment e.moment) (all-put_in P e fs p h.1)
-  where
-    by : (b : Bool) → AllByRecursion P (put_in e fs) → AllByRecursion P (cond b (f ∷ put_in e fs) (e ∷ f ∷ fs))
-    by true more = (h.0, more)
-    by false more = (p, h)
 
 turn-put_in : (e : Happens) (es : List Happens) → AllByRecursion (Ties e) es → InTurn Sooner es → InTurn Sooner (put_in e es)
 turn-put_in e [] ties h = (tt, tt)

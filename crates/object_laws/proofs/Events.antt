@@ -44,19 +44,6 @@ abbrev pub line_of : Origin → Option ℕ → List ℕ → List ℕ
 line_of o segment result =
     front_text o.event o.moment o.source o.number ++ (lines.segment_text segment ++ codes " " ++ result ++ 10 ∷ [])
 
--- the words of two events in a line
-record AreSame (o p : Origin) (s t : Option ℕ) : Type 0 where
-  event : decimal o.event ≡ decimal p.event
-  moment : decimal o.moment ≡ decimal p.moment
-  source : source_word o.source ≡ source_word p.source
-  number : decimal o.number ≡ decimal p.number
-  segment : lines.segment_text s ≡ lines.segment_text t
-
-line_same : (o p : Origin) (s t : Option ℕ) (a b : List ℕ) → AreSame o p s t → a ≡ b → line_of o s a ≡ line_of p t b
-line_same o p s t a b same e =
-    λ i. same.event i ++ codes " " ++ same.moment i ++ codes " " ++ same.source i ++ codes " " ++ same.number i ++ codes " "
-    ++ (same.segment i ++ codes " " ++ e i ++ 10 ∷ [])
-
 pub begin_same : (o p : Origin) (x y : List ℕ)
     → front (decimal o.event) (decimal o.moment) x ≡ front (decimal p.event) (decimal p.moment) y
     → (decimal o.event ≡ decimal p.event) × (decimal o.moment ≡ decimal p.moment) × (x ≡ y)
@@ -65,14 +52,20 @@ begin_same o p x y e =
     (decimal o.event) (decimal o.moment) (decimal p.event) (decimal p.moment) x y
     (comma_number o.event, quote_number o.moment) (comma_number p.event, quote_number p.moment) e
 
-end_same : (o p : Origin) (s t : Option ℕ) (x y : List ℕ)
+-- two events whose other words and results are the same, and whose objects end in the same way
+end_same : (o p : Origin) (s t : Option ℕ) (a b x y : List ℕ) → decimal o.event ≡ decimal p.event → decimal o.moment ≡ decimal p.moment
+    → decimal o.number ≡ decimal p.number → a ≡ b
     → ending (segment_text s) (source_word o.source) x ≡ ending (segment_text t) (source_word p.source) y
-    → (lines.segment_text s ≡ lines.segment_text t) × (source_word o.source ≡ source_word p.source) × (x ≡ y)
-end_same o p s t x y e =
+    → (line_of o s a ≡ line_of p t b) × (x ≡ y)
+end_same o p s t a b x y event moment number result e =
     let same = pair_same (codes ",\"segment\":") (codes "\"source\":\"") 44 34
     (segment_text s) (source_word o.source) (segment_text t) (source_word p.source) _ _
     (comma_segment s, quote_source o.source) (comma_segment t, quote_source p.source) e in
-    (segment_same s t same.0, same.1, append_cancel_left (codes "}\n") x y same.2)
+    let segment = segment_same s t same.0 in (
+      λ i. event i ++ codes " " ++ moment i ++ codes " " ++ same.1 i ++ codes " " ++ number i ++ codes " "
+          ++ (segment i ++ codes " " ++ result i ++ 10 ∷ []),
+      append_cancel_left (codes "}\n") x y same.2,
+    )
 
 -- ---- drops
 
@@ -89,15 +82,8 @@ drop_same o p s t r k x y e =
     (quote_reason r, comma_number o.number) (quote_reason k, comma_number p.number) first.2 in
     let third = field_same (codes "\"reason\":") 44 (decimal (number_of r)) (decimal (number_of k)) _ _
     (comma_number (number_of r)) (comma_number (number_of k)) second.2 in
-    let last = end_same o p s t x y (append_cancel_left (codes "\"result\":\"drop\"") _ _ third.1) in
-    let words : AreSame o p s t = record {
-      event = first.0;
-      moment = first.1;
-      source = last.1;
-      number = second.1;
-      segment = last.0;
-    } in
-    (line_same o p s t _ _ words (λ i. codes "drop " ++ third.0 i ++ codes " " ++ second.0 i), last.2)
+    end_same o p s t _ _ x y first.0 first.1 second.1 (λ i. codes "drop " ++ third.0 i ++ codes " " ++ second.0 i)
+    (append_cancel_left (codes "\"result\":\"drop\"") _ _ third.1)
 
 -- ---- what is sent
 
@@ -109,15 +95,8 @@ sent_same o p s t a b os ps x y e =
     let second = field_same (codes ",\"number\":") 44 (decimal o.number) (decimal p.number) _ _
     (comma_number o.number) (comma_number p.number) first.2 in
     let third = outcomes_same a b os ps _ _ (append_cancel_left (codes "\"outcomes\":[") _ _ second.1) in
-    let last = end_same o p s t x y (append_cancel_left (codes ",\"result\":\"sent\"") _ _ third.1) in
-    let words : AreSame o p s t = record {
-      event = first.0;
-      moment = first.1;
-      source = last.1;
-      number = second.0;
-      segment = last.0;
-    } in
-    (line_same o p s t _ _ words third.0, last.2)
+    end_same o p s t _ _ x y first.0 first.1 second.0 third.0
+    (append_cancel_left (codes ",\"result\":\"sent\"") _ _ third.1)
 
 -- ---- replies
 
@@ -127,15 +106,8 @@ done_same o p s t x y e =
     let first = begin_same o p _ _ (sym (done_form o s x) ∙ e ∙ done_form p t y) in
     let second = field_same (codes ",\"number\":") 44 (decimal o.number) (decimal p.number) _ _
     (comma_number o.number) (comma_number p.number) first.2 in
-    let last = end_same o p s t x y (append_cancel_left (codes "\"result\":\"done\"") _ _ second.1) in
-    let words : AreSame o p s t = record {
-      event = first.0;
-      moment = first.1;
-      source = last.1;
-      number = second.0;
-      segment = last.0;
-    } in
-    (line_same o p s t _ _ words refl, last.2)
+    end_same o p s t _ _ x y first.0 first.1 second.0 refl
+    (append_cancel_left (codes "\"result\":\"done\"") _ _ second.1)
 
 pub refused_same : (o p : Origin) (s t : Option ℕ) (r k : ChangeFault) (x y : List ℕ)
     → reply_object o s (Some r) ++ x ≡ reply_object p t (Some k) ++ y
@@ -150,12 +122,5 @@ refused_same o p s t r k x y e =
     (quote_number o.moment, quote_fault r) (quote_number p.moment, quote_fault k) first.2 in
     let third = field_same (codes ",\"number\":") 44 (decimal o.number) (decimal p.number) _ _
     (comma_number o.number) (comma_number p.number) second.2 in
-    let last = end_same o p s t x y (append_cancel_left (codes "\"result\":\"refused\"") _ _ third.1) in
-    let words : AreSame o p s t = record {
-      event = first.1;
-      moment = second.0;
-      source = last.1;
-      number = third.0;
-      segment = last.0;
-    } in
-    (line_same o p s t _ _ words (λ i. codes "refused " ++ first.0 i ++ codes " " ++ second.1 i), last.2)
+    end_same o p s t _ _ x y first.1 second.0 third.0 (λ i. codes "refused " ++ first.0 i ++ codes " " ++ second.1 i)
+    (append_cancel_left (codes "\"result\":\"refused\"") _ _ third.1)

@@ -89,13 +89,7 @@ flooded segments vid flood own all (Some g) w = put-in segments vid (record g { 
 -- what it makes of a flood list is one
 abbrev MakesFlood : Effect → Settings → Type 0
 MakesFlood (ToFlood vid change) S = (s : SegmentSettings) → segment_at S vid ≡ Some s → IsFlood (change s)
-MakesFlood (ToBridge vid change) S = Unit {0}
-MakesFlood (ToLimit vid limit) S = Unit {0}
-MakesFlood (ToMembers vid port egress) S = Unit {0}
-MakesFlood (ToPort port up) S = Unit {0}
-MakesFlood (Comes new) S = Unit {0}
-MakesFlood (Goes vid) S = Unit {0}
-MakesFlood ToNothing S = Unit {0}
+MakesFlood e S = Unit {0}
 
 module _ (n : ℕ) (U : Underlay) where
   keeps-applied : (e : Effect) (S : Settings) → MakesFlood e S → Keeps n U S → Keeps n U (applied e S)
@@ -143,17 +137,7 @@ module _ (n : ℕ) (U : Underlay) where
       λ s is. flood-more s.flood (record { tunnel = kind_in s.tunnels tunnel; addr = addr }) (own-flood S vid s k is) (has-room S vid addr tunnel s is none) named
   makes-flood S (RemoveFlood vid addr tunnel) named none k =
       λ s is. flood-left (λ entry. not (is_entry (kind_in s.tunnels tunnel) addr entry)) s.flood (own-flood S vid s k is)
-  makes-flood S (Fix vid mac goal) named none k = tt
-  makes-flood S (Unfix vid mac) named none k = tt
-  makes-flood S (SetAgeing vid seconds) named none k = tt
-  makes-flood S (SetLearning vid on) named none k = tt
-  makes-flood S (SetMember vid port egress) named none k = tt
-  makes-flood S (PortUp port) named none k = tt
-  makes-flood S (PortDown port) named none k = tt
-  makes-flood S (Flush vid) named none k = tt
-  makes-flood S (AddSegment new) named none k = tt
-  makes-flood S (RemoveSegment vid) named none k = tt
-  makes-flood S (SetLimit vid limit) named none k = tt
+  makes-flood S c named none k = tt
 
   -- ---- tables
 

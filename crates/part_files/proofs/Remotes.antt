@@ -7,7 +7,7 @@ use Rattle.flood_lists.specs.declared.remote.Remote.{Remote as Endpoint}
 use Rattle.filter_db.specs.declared.place.Place.{Place}
 use Rattle.filter_db.specs.declared.place.Place.TheVariants.{Local, Remote}
 use Rattle.overlay_settings.specs.declared.change.Change.{Change}
-use Rattle.overlay_settings.specs.declared.change.Change.TheVariants.{AddFlood, RemoveFlood, Fix, Unfix, SetAgeing, SetLearning, SetMember, PortUp, PortDown, Flush, AddSegment, RemoveSegment, SetLimit}
+use Rattle.overlay_settings.specs.declared.change.Change.TheVariants.{AddFlood, Fix}
 use Rattle.overlay_settings.specs.declared.change.Target.{Target}
 use Rattle.overlay_settings.specs.declared.change.Target.TheVariants as target
 
@@ -28,15 +28,5 @@ IsTarget (target.Remote addr tunnel) = IsAddr addr
 -- so has each endpoint that a change adds
 abbrev pub HasAddr : Change → Type 0
 HasAddr (AddFlood vid addr tunnel) = IsAddr addr
-HasAddr (RemoveFlood vid addr tunnel) = Unit {0}
 HasAddr (Fix vid mac goal) = IsTarget goal
-HasAddr (Unfix vid mac) = Unit {0}
-HasAddr (SetAgeing vid seconds) = Unit {0}
-HasAddr (SetLearning vid on) = Unit {0}
-HasAddr (SetMember vid port egress) = Unit {0}
-HasAddr (PortUp port) = Unit {0}
-HasAddr (PortDown port) = Unit {0}
-HasAddr (Flush vid) = Unit {0}
-HasAddr (AddSegment rule) = Unit {0}
-HasAddr (RemoveSegment vid) = Unit {0}
-HasAddr (SetLimit vid limit) = Unit {0}
+HasAddr c = Unit {0}

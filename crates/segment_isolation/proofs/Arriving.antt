@@ -34,10 +34,10 @@ arriving U found original b =
     (unless (as_refused None (first (outer_reasons (with_underlay U) b))) (brought (kind_to U (packet_in b)) found (packet_in b)))
 
 -- the segment that is found for the data d at a port of a kind
-abbrev found_for : Overlay → List ℕ → Option Tunnel → Option (ℕ × Segment)
+abbrev pub found_for : Overlay → List ℕ → Option Tunnel → Option (ℕ × Segment)
 found_for S d kind = option_and_then (λ k. segment_by S k (vni_of k d)) kind
 
-found : Overlay → List ℕ → Option (ℕ × Segment)
+unfoldable pub found : Overlay → List ℕ → Option (ℕ × Segment)
 found S b = found_for S (data_of (packet_in b).payload) (kind_to S.underlay (packet_in b))
 
 by-brought : (S : Overlay) (p : Packet) (kind : Option Tunnel) → arrival_by S kind p.source p.destination (data_of p.payload) ≡ brought kind (found_for S (data_of p.payload) kind) p
@@ -87,14 +87,21 @@ same_found vid S T underlay alike here b own =
     ap (λ (U : Underlay). found_for T (data_of (packet_in b).payload) (kind_to U (packet_in b))) (sym underlay)
     ∙ same_for vid S T alike here (data_of (packet_in b).payload) (kind_to S.underlay (packet_in b)) own
 
--- what arrives in the segment or is refused in it
-pub arrival-same : (vid : ℕ) (S T : Overlay) → S.underlay ≡ T.underlay → ((w : ℕ) → tunnels_at S w ≡ tunnels_at T w) → segment_at S vid ≡ segment_at T vid → (original : ℕ) (b : List ℕ) → is_segment vid (segment_arrived (arrival_of S original b)) ≡ true → arrival_of T original b ≡ arrival_of S original b
-arrival-same vid S T underlay alike here original b own = by (is_segment vid (option_map (λ e. e.0) (found S b))) refl
+-- what arrives in the segment or is refused in it was found for it
+pub arrives-found : (vid : ℕ) (S : Overlay) (original : ℕ) (b : List ℕ) → is_segment vid (segment_arrived (arrival_of S original b)) ≡ true → is_segment vid (option_map (λ e. e.0) (found S b)) ≡ true
+arrives-found vid S original b own = by (is_segment vid (option_map (λ e. e.0) (found S b))) refl
   where
-    by : (c : Bool) → is_segment vid (option_map (λ e. e.0) (found S b)) ≡ c → arrival_of T original b ≡ arrival_of S original b
-    by true is =
-        arrival_of-is T original b
-        ∙ (λ i. arriving (sym underlay i) (same_found vid S T underlay alike here b is i) original b)
-        ∙ sym (arrival_of-is S original b)
+    by : (c : Bool) → is_segment vid (option_map (λ e. e.0) (found S b)) ≡ c → c ≡ true
+    by true is = refl
     by false is =
         absurd (false≢true (sym (not_arriving vid S.underlay (found S b) original b is) ∙ sym (ap (λ (r : Result Arrived Refused). is_segment vid (segment_arrived r)) (arrival_of-is S original b)) ∙ own))
+
+-- where the same is found for it, the same arrives
+pub arrival-found : (S T : Overlay) → S.underlay ≡ T.underlay → (original : ℕ) (b : List ℕ) → found T b ≡ found S b → arrival_of T original b ≡ arrival_of S original b
+arrival-found S T underlay original b same =
+    arrival_of-is T original b ∙ (λ i. arriving (sym underlay i) (same i) original b) ∙ sym (arrival_of-is S original b)
+
+-- what arrives in the segment or is refused in it
+pub arrival-same : (vid : ℕ) (S T : Overlay) → S.underlay ≡ T.underlay → ((w : ℕ) → tunnels_at S w ≡ tunnels_at T w) → segment_at S vid ≡ segment_at T vid → (original : ℕ) (b : List ℕ) → is_segment vid (segment_arrived (arrival_of S original b)) ≡ true → arrival_of T original b ≡ arrival_of S original b
+arrival-same vid S T underlay alike here original b own =
+    arrival-found S T underlay original b (same_found vid S T underlay alike here b (arrives-found vid S original b own))

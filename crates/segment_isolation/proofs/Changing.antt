@@ -256,11 +256,8 @@ see_applied-other vid (ToFlood v change) x other unseen = ap (λ (b : Bool). con
 see_applied-other vid (ToBridge v change) x other unseen =
     ap (λ (b : Bool). let y : Seen = record x { bridge = cond b (option_map (λ (r : BridgeSettings). let left : BridgeSettings = record (change r) { limit = r.limit } in left) x.bridge) x.bridge } in y) other
 see_applied-other vid (ToMembers v port egress) x other unseen = ap (λ (b : Bool). cond b (joined_by port egress x) x) other
-see_applied-other vid (ToLimit v limit) x other unseen = absurd (false≢true (sym unseen))
-see_applied-other vid (ToPort port up) x other unseen = absurd (false≢true (sym unseen))
-see_applied-other vid (Comes new) x other unseen = absurd (false≢true (sym unseen))
-see_applied-other vid (Goes v) x other unseen = absurd (false≢true (sym unseen))
 see_applied-other vid ToNothing x other unseen = refl
+see_applied-other vid e x other unseen = absurd (false≢true (sym unseen))
 
 -- ---- the settings after a change that they don't refuse
 

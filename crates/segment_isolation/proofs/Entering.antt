@@ -1,5 +1,5 @@
 -- A frame that enters a segment is read by what that segment sees of the ports.
-use Rattle.std.proofs.Common.{◌≡◌, ℕ, Bool, true, false, cond, not, ◌==◌, List, [], ◌∷◌, ◌++◌, Option, Some, Result, Ok, Err, is_none, refl, sym, ap, ◌∙◌}
+use Rattle.std.proofs.Common.{◌≡◌, ℕ, Bool, true, false, cond, not, ◌==◌, List, [], ◌∷◌, ◌++◌, Option, Some, Result, Ok, Err, is_none, is_some, refl, sym, ap, ◌∙◌}
 use Rattle.std.specs.List.{AllByRecursion}
 use Rattle.std.specs.Option.{option_and_then}
 use Rattle.std.specs.FinMap.{empty, get}
@@ -63,11 +63,14 @@ not_entering vid ports stands egress port b other =
     (refl, (refl, (refl, (refl, (refl, (refl, (refl, (refl, (other, tt)))))))))
 
 -- what enters in the segment or is refused in it
-pub enters-same : (vid : ℕ) (P Q : Ports) → P.ports ≡ Q.ports → ((w : ℕ) → has_segment P w ≡ has_segment Q w) → members_at P vid ≡ members_at Q vid → (port : ℕ) (b : List ℕ) → is_segment vid (segment_entered (enters P port b)) ≡ true → enters Q port b ≡ enters P port b
-enters-same vid P Q ports stands members port b own = by (vid == k) refl
+pub enters-same : (vid : ℕ) (P Q : Ports) → P.ports ≡ Q.ports → members_at P vid ≡ members_at Q vid → (port : ℕ) (b : List ℕ) → is_segment vid (segment_entered (enters P port b)) ≡ true → enters Q port b ≡ enters P port b
+enters-same vid P Q ports members port b own = by (vid == k) refl
   where
     k : ℕ
     k = vid_for P.ports port b
+
+    stands : vid ≡ k → has_segment P k ≡ has_segment Q k
+    stands same = sym (ap (λ (v : ℕ). has_segment P v) same) ∙ ap is_some members ∙ ap (λ (v : ℕ). has_segment Q v) same
 
     egress : vid ≡ k → egress_at P k port ≡ egress_at Q k port
     egress same =
@@ -79,7 +82,7 @@ enters-same vid P Q ports stands members port b own = by (vid == k) refl
     by true same =
         enters-is Q port b
         ∙ ap (λ (l : List PortRule). entering l (has_segment Q (vid_for l port b)) (egress_at Q (vid_for l port b) port) port b) (sym ports)
-        ∙ (λ i. entering P.ports (sym (stands k) i) (sym (egress (eqb-true vid k same)) i) port b)
+        ∙ (λ i. entering P.ports (sym (stands (eqb-true vid k same)) i) (sym (egress (eqb-true vid k same)) i) port b)
         ∙ sym (enters-is P port b)
     by false other =
         absurd (false≢true (sym (not_entering vid P.ports (has_segment P k) (egress_at P k port) port b other) ∙ sym (ap (λ (r : Result (ℕ × Frame) Refused). is_segment vid (segment_entered r)) (enters-is P port b)) ∙ own))

@@ -28,7 +28,7 @@ abbrev has : Tunnel → ℕ → List SegmentTunnel → Bool
 has kind vni ts = option_map_or (λ t. t.vni == vni) (of_kind kind ts) false
 
 -- what is found stands there
-found_at : (S : Overlay) (kind : Tunnel) (vni : ℕ) (e : ℕ × Segment) → segment_by S kind vni ≡ Some e → segment_at S e.0 ≡ Some e.1
+pub found_at : (S : Overlay) (kind : Tunnel) (vni : ℕ) (e : ℕ × Segment) → segment_by S kind vni ≡ Some e → segment_at S e.0 ≡ Some e.1
 found_at S kind vni e is = get-entries S.segments e.0 ∙ (found_where nat_cmp_total (has_tunnel kind vni) (entries S.segments) e (entries_sorted S.segments) is).0
 
 -- the VID and the tunnels of what is found are told by all tunnels

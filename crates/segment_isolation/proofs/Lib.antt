@@ -1,6 +1,7 @@
 pub mod Arriving
 pub mod Changing
 pub mod Coming
+pub mod Deciding
 pub mod Entering
 pub mod Finding
 pub mod Leaving

@@ -9,12 +9,14 @@ use Rattle.vlan_ports.specs.declared.port.Accept.TheVariants.{All}
 use Rattle.vlan_ports.proofs.PlacesLemmas.{get-insert_same}
 use Rattle.endpoint_state.specs.State.{aged}
 use Rattle.overlay_settings.specs.declared.change.Change.TheVariants.{SetLearning, SetMember, PortDown, Flush}
+use Rattle.endpoint_core.specs.Among.{segment_of}
 use Rattle.endpoint_core.specs.Arrival.{came_at, came_by, entered, let_in}
 use Rattle.endpoint_core.specs.Event.{Event, frame_at, packet_at, change_at}
 use Rattle.endpoint_core.specs.Step.{State, after}
+use Rattle.endpoint_core.proofs.LetIn.{let_in-segment}
 use Rattle.segment_isolation.specs.Alone.{is_segment, concerns, only}
 use Rattle.segment_isolation.proofs.Entering.{entering, not_entering}
-use Rattle.segment_isolation.proofs.Coming.{segment_came, by-entered, by-let_in}
+use Rattle.segment_isolation.proofs.Coming.{by-entered}
 use Rattle.segment_isolation.proofs.Stepping.{decided-segment}
 
 -- changes that name another segment go, those that name it or are of a port stay
@@ -30,11 +32,11 @@ row_runts s = refl
 -- ---- frames and packets
 
 -- a frame concerns the segment that it comes to, or that it is refused in
-pub concerns-frame : (vid : ℕ) (s : State) (t port original : ℕ) (b : List ℕ) → concerns vid s (frame_at t port original b) ≡ is_segment vid (segment_came (came_at s.bridges.settings.ports s.bridges.settings.overlay port original b))
+pub concerns-frame : (vid : ℕ) (s : State) (t port original : ℕ) (b : List ℕ) → concerns vid s (frame_at t port original b) ≡ is_segment vid (segment_of (came_at s.bridges.settings.ports s.bridges.settings.overlay port original b))
 concerns-frame vid s t port original b = ap (is_segment vid) (decided-segment t (aged t s.bridges) (came_at s.bridges.settings.ports s.bridges.settings.overlay port original b))
 
 -- and so does a packet
-pub concerns-packet : (vid : ℕ) (s : State) (t original : ℕ) (b : List ℕ) → concerns vid s (packet_at t original b) ≡ is_segment vid (segment_came (came_by s.bridges.settings.overlay original b))
+pub concerns-packet : (vid : ℕ) (s : State) (t original : ℕ) (b : List ℕ) → concerns vid s (packet_at t original b) ≡ is_segment vid (segment_of (came_by s.bridges.settings.overlay original b))
 concerns-packet vid s t original b = ap (is_segment vid) (decided-segment t (aged t s.bridges) (came_by s.bridges.settings.overlay original b))
 
 -- port 1 is a member of segment 10, and port 2 of segment 20
@@ -63,16 +65,16 @@ row_own : (s : State) → s.bridges.settings.ports ≡ two_ports → concerns 10
 unfolding came_at entering two_ports broadcast
 row_own s ports =
     concerns-frame 10 s 5 1 14 broadcast
-    ∙ ap (λ (P : Ports). is_segment 10 (segment_came (came_at P s.bridges.settings.overlay 1 14 broadcast))) ports
-    ∙ (λ i. is_segment 10 (segment_came (let_in s.bridges.settings.overlay (entered 1 (entering two_ports.ports (stands_10 i) (leaves_10 i) 1 broadcast)))))
+    ∙ ap (λ (P : Ports). is_segment 10 (segment_of (came_at P s.bridges.settings.overlay 1 14 broadcast))) ports
+    ∙ (λ i. is_segment 10 (segment_of (let_in s.bridges.settings.overlay (entered 1 (entering two_ports.ports (stands_10 i) (leaves_10 i) 1 broadcast)))))
 
 -- at port 2 it goes
 row_other : (s : State) → s.bridges.settings.ports ≡ two_ports → concerns 10 s (frame_at 5 2 14 broadcast) ≡ false
 unfolding came_at entering two_ports broadcast
 row_other s ports =
     concerns-frame 10 s 5 2 14 broadcast
-    ∙ ap (λ (P : Ports). is_segment 10 (segment_came (came_at P s.bridges.settings.overlay 2 14 broadcast))) ports
-    ∙ ap (is_segment 10) (by-let_in s.bridges.settings.overlay (entered 2 (entering two_ports.ports (has_segment two_ports 20) (egress_at two_ports 20 2) 2 broadcast)))
+    ∙ ap (λ (P : Ports). is_segment 10 (segment_of (came_at P s.bridges.settings.overlay 2 14 broadcast))) ports
+    ∙ ap (is_segment 10) (let_in-segment s.bridges.settings.overlay (entered 2 (entering two_ports.ports (has_segment two_ports 20) (egress_at two_ports 20 2) 2 broadcast)))
     ∙ ap (is_segment 10) (by-entered 2 (entering two_ports.ports (has_segment two_ports 20) (egress_at two_ports 20 2) 2 broadcast))
     ∙ not_entering 10 two_ports.ports (has_segment two_ports 20) (egress_at two_ports 20 2) 2 broadcast refl
 

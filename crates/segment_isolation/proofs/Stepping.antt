@@ -1,96 +1,58 @@
 -- An event that concerns a segment does the same to two states that look alike to it, and another event does nothing.
-use Rattle.std.proofs.Common.{◌≡◌, ℕ, ◌==◌, Bool, true, false, cond, ◌||◌, List, map, length, Option, Some, None, Result, Ok, Err, refl, sym, ap, ◌∙◌, subst}
+use Rattle.std.proofs.Common.{◌≡◌, ℕ, Bool, true, false, cond, ◌||◌, List, Option, Some, None, Result, Ok, Err, refl, sym, ap, ◌∙◌}
 use Rattle.std.specs.Prelude.{is_none}
-use Rattle.std.specs.Option.{option_and_then, option_map_or}
-use Rattle.std.proofs.Math.Path.{fun_ext}
-use Rattle.std.proofs.lemmas.Bool.{eqb-true, false≢true}
-use Rattle.frame_view.specs.Frame.{Frame}
+use Rattle.std.specs.Option.{option_and_then}
+use Rattle.std.proofs.lemmas.Bool.{false≢true}
 use Rattle.frame_view.specs.declared.reason.Reason.{Reason}
 use Rattle.frame_view.specs.declared.reason.Refused.{Refused}
-use Rattle.vlan_ports.specs.Ports.{Ports}
-use Rattle.underlay.specs.declared.segment.Segment.{Segment}
 use Rattle.filter_db.specs.declared.place.Place.{Place}
 use Rattle.filter_db.specs.Table.{Table}
 use Rattle.overlay_settings.specs.declared.change.Change.{Change}
-use Rattle.overlay_settings.specs.declared.change.Change.TheVariants.{AddFlood, RemoveFlood, Fix, Unfix, SetAgeing, SetLearning, SetMember, PortUp, PortDown, Flush, AddSegment, RemoveSegment, SetLimit}
-use Rattle.endpoint_state.specs.declared.fault.ChangeFault.{ChangeFault}
+use Rattle.overlay_settings.specs.declared.change.Change.TheVariants.{Fix, Unfix, SetMember}
 use Rattle.endpoint_state.specs.Settings.{Settings, SegmentSettings, segment_at}
 use Rattle.endpoint_state.specs.Effect.{effect}
 use Rattle.endpoint_state.specs.Change.{named, is_about, refused, changed, table_fault}
-use Rattle.endpoint_state.specs.State.{State as Bridges, fault, table_changed, accepted_state, after_change}
-use Rattle.endpoint_state.specs.Step.{table_learned, verdict_in, verdict}
+use Rattle.endpoint_state.specs.State.{State as Bridges, fault, table_changed, after_change}
+use Rattle.endpoint_state.specs.Step.{table_learned, verdict}
 use Rattle.endpoint_state.proofs.ChangeLemmas.{settings-alone}
+use Rattle.endpoint_core.specs.Among.{segment_of}
 use Rattle.endpoint_core.specs.Came.{Came}
 use Rattle.endpoint_core.specs.Arrival.{came_at, came_by}
-use Rattle.endpoint_core.specs.Decision.{Sent, forwarded}
 use Rattle.endpoint_core.specs.Event.{Input, FrameAt, Packet, Asks}
-use Rattle.endpoint_core.specs.Step.{Decided, Replied, sent_at, by_verdict, decided_in, decided, after_came, answer_by, bridges_after}
+use Rattle.endpoint_core.specs.Step.{Decided, Replied, by_verdict, decided, after_came, answer_by, bridges_after}
 use Rattle.segment_isolation.specs.Alone.{is_segment, all_see, concerns_by}
 use Rattle.segment_isolation.proofs.Seeing.{Seen, View, seen, viewed, own_of}
-use Rattle.segment_isolation.proofs.Entering.{with_ports}
 use Rattle.segment_isolation.proofs.Refusing.{refused-same}
 use Rattle.segment_isolation.proofs.Changing.{changed-same, changed-other}
-use Rattle.segment_isolation.proofs.Coming.{segment_came, came_at-same, came_by-same}
-use Rattle.segment_isolation.proofs.Leaving.{emitted-same}
+use Rattle.segment_isolation.proofs.Coming.{came_at-same, came_by-same}
+use Rattle.segment_isolation.proofs.Deciding.{Basis, table_came, decided-same, fault_at, fault_at-same, table_chosen, unchanged}
+
+-- what a decision stands on is seen
+abbrev pub in_view : View → Basis
+in_view w = record {
+  underlay = w.settings.underlay;
+  ports = w.settings.ports;
+  members = w.settings.members;
+  segment = w.settings.segment;
+  bridge = w.settings.bridge;
+  table = w.table;
+}
 
 -- ---- what is decided of a frame
-
--- a verdict asks of the ports which are up
-verdict_in-is : (P : Ports) (o : Option SegmentSettings) (from : Place) (f : Frame) (m : Table) → verdict_in P o from f m ≡ verdict_in (with_ports P.ports) o from f m
-verdict_in-is P None from f m = refl
-verdict_in-is P (Some s) from f m = refl
-
--- the table of the segment after a frame came to that of a VID
-abbrev table_came : ℕ → ℕ → ℕ → Place → Frame → View → Table
-table_came t vid v from f w = cond (vid == v) (table_learned t from f (own_of w.settings) w.table) w.table
-
-abbrev verdict_by : ℕ → ℕ → Place → Frame → View → Result (List Place) Reason
-verdict_by t vid from f w = verdict_in (with_ports w.settings.ports) (own_of w.settings) from f (table_came t vid vid from f w)
-
-verdict-is : (t vid : ℕ) (from : Place) (f : Frame) (B : Bridges) → verdict t vid from f B ≡ verdict_by t vid from f (viewed vid B)
-verdict-is t vid from f B = verdict_in-is B.settings.ports (segment_at B.settings vid) from f (table_came t vid vid from f (viewed vid B))
-
-verdict-same : (t vid : ℕ) (from : Place) (f : Frame) (B C : Bridges) → viewed vid B ≡ viewed vid C → verdict t vid from f B ≡ verdict t vid from f C
-verdict-same t vid from f B C h = verdict-is t vid from f B ∙ ap (verdict_by t vid from f) h ∙ sym (verdict-is t vid from f C)
-
-abbrev two_by : Option Segment → Bool
-two_by segment = option_map_or (λ g. length g.tunnels == 2) segment false
-
-sent-same : (vid : ℕ) (S T : Settings) → seen vid S ≡ seen vid T → (f : Frame) → sent_at S vid f ≡ sent_at T vid f
-sent-same vid S T h f = fun_ext (λ place. ap (λ (r : Result (List ℕ) Reason). let sent : Sent = record { place = place; sent = r } in sent)
-    (emitted-same vid S.ports T.ports S.overlay T.overlay (ap (λ (x : Seen). x.members) h) (ap (λ (x : Seen). x.underlay) h) (ap (λ (x : Seen). x.segment) h) f place))
-
-by_verdict-same : (S T : Settings) (x : Came) → seen x.vid S ≡ seen x.vid T → (v : Result (List Place) Reason) → by_verdict S x v ≡ by_verdict T x v
-by_verdict-same S T x h (Err reason) = refl
-by_verdict-same S T x h (Ok places) =
-    let sents : sent_at S x.vid x.frame ≡ sent_at T x.vid x.frame = sent-same x.vid S T h x.frame in
-    λ i. forwarded x.vid (two_by (h i).segment) (map (sents i) places)
-
-decided_in-same : (t : ℕ) (B C : Bridges) (x : Came) → viewed x.vid B ≡ viewed x.vid C → decided_in t B x ≡ decided_in t C x
-decided_in-same t B C x h =
-    ap (by_verdict B.settings x) (verdict-same t x.vid x.from x.frame B C h)
-    ∙ by_verdict-same B.settings C.settings x (ap (λ (w : View). w.settings) h) (verdict t x.vid x.from x.frame C)
 
 by_verdict-segment : (S : Settings) (x : Came) (v : Result (List Place) Reason) → (by_verdict S x v).segment ≡ Some x.vid
 by_verdict-segment S x (Ok places) = refl
 by_verdict-segment S x (Err reason) = refl
 
 -- a decision carries the segment that the frame or packet comes to, or is refused in
-pub decided-segment : (t : ℕ) (B : Bridges) (r : Result Came Refused) → (decided t B r).segment ≡ segment_came r
+pub decided-segment : (t : ℕ) (B : Bridges) (r : Result Came Refused) → (decided t B r).segment ≡ segment_of r
 decided-segment t B (Ok x) = by_verdict-segment B.settings x (verdict t x.vid x.from x.frame B)
 decided-segment t B (Err refused) = refl
-
-viewed_of : (vid v : ℕ) (B C : Bridges) → viewed vid B ≡ viewed vid C → (vid == v) ≡ true → viewed v B ≡ viewed v C
-viewed_of vid v B C h same = subst (λ (w : ℕ). viewed w B ≡ viewed w C) (eqb-true vid v same) h
-
-decided-same : (vid t : ℕ) (B C : Bridges) → viewed vid B ≡ viewed vid C → (r : Result Came Refused) → is_segment vid (segment_came r) ≡ true → decided t B r ≡ decided t C r
-decided-same vid t B C h (Ok x) own = decided_in-same t B C x (viewed_of vid x.vid B C h own)
-decided-same vid t B C h (Err refused) own = refl
 
 -- ---- the state after a frame
 
 abbrev came_view : ℕ → ℕ → Result Came Refused → View → View
-came_view vid t (Ok x) w = record { settings = w.settings; table = table_came t vid x.vid x.from x.frame w }
+came_view vid t (Ok x) w = record { settings = w.settings; table = table_came t vid x.vid x.from x.frame (in_view w) }
 came_view vid t (Err refused) w = w
 
 after_came-is : (vid t : ℕ) (r : Result Came Refused) (B : Bridges) → viewed vid (after_came t B r) ≡ came_view vid t r (viewed vid B)
@@ -98,7 +60,7 @@ after_came-is vid t (Ok x) B = refl
 after_came-is vid t (Err refused) B = refl
 
 -- a frame of another segment
-came_view-other : (vid t : ℕ) (r : Result Came Refused) (w : View) → is_segment vid (segment_came r) ≡ false → came_view vid t r w ≡ w
+came_view-other : (vid t : ℕ) (r : Result Came Refused) (w : View) → is_segment vid (segment_of r) ≡ false → came_view vid t r w ≡ w
 came_view-other vid t (Ok x) w other = ap (λ (b : Bool). let left : View = record { settings = w.settings; table = cond b (table_learned t x.from x.frame (own_of w.settings) w.table) w.table } in left) other
 came_view-other vid t (Err refused) w other = refl
 
@@ -112,30 +74,13 @@ neither : (a b : Bool) → a || b ≡ false → (a ≡ false) × (b ≡ false)
 neither true b h = absurd (false≢true (sym h))
 neither false b h = (refl, h)
 
--- why a table refuses it
-abbrev fault_at : Bridges → Change → Option ℕ → Option ChangeFault
-fault_at B c o = option_and_then (λ v. option_and_then (λ s. table_fault s c (B.tables v)) (segment_at B.settings v)) o
-
-fault_at-same : (vid : ℕ) (B C : Bridges) → viewed vid B ≡ viewed vid C → (c : Change) (o : Option ℕ) → option_map_or (λ own. vid == own) o true ≡ true → fault_at B c o ≡ fault_at C c o
-fault_at-same vid B C h c None about = refl
-fault_at-same vid B C h c (Some v) about = ap (λ (w : View). option_and_then (λ s. table_fault s c w.table) (own_of w.settings)) (viewed_of vid v B C h about)
-
 -- a table refuses no change that every segment sees
 unseen_fault : (c : Change) (s : SegmentSettings) (m : Table) → all_see (effect c) ≡ true → table_fault s c m ≡ None
-unseen_fault (AddFlood v addr tunnel) s m seen = refl
-unseen_fault (RemoveFlood v addr tunnel) s m seen = refl
 unseen_fault (Fix v mac target) s m seen = absurd (false≢true seen)
 unseen_fault (Unfix v mac) s m seen = absurd (false≢true seen)
-unseen_fault (SetAgeing v seconds) s m seen = refl
-unseen_fault (SetLearning v on) s m seen = refl
 unseen_fault (SetMember v port (Some egress)) s m seen = refl
 unseen_fault (SetMember v port None) s m seen = refl
-unseen_fault (PortUp port) s m seen = refl
-unseen_fault (PortDown port) s m seen = refl
-unseen_fault (Flush v) s m seen = refl
-unseen_fault (AddSegment new) s m seen = refl
-unseen_fault (RemoveSegment v) s m seen = refl
-unseen_fault (SetLimit v limit) s m seen = refl
+unseen_fault c s m seen = refl
 
 no_fault_in : (c : Change) (o : Option SegmentSettings) (m : Table) → all_see (effect c) ≡ true → option_and_then (λ s. table_fault s c m) o ≡ None
 no_fault_in c None m seen = refl
@@ -153,11 +98,7 @@ fault-same vid B C h c concerned =
   where
     by : (b : Bool) → all_see (effect c) ≡ b → is_about vid c || b ≡ true → fault_at B c (named c) ≡ fault_at C c (named c)
     by true seen own = no_fault_at B c (named c) seen ∙ sym (no_fault_at C c (named c) seen)
-    by false unseen own = fault_at-same vid B C h c (named c) (or_false (is_about vid c) own)
-
-table_chosen : (t : ℕ) (c : Change) (B : Bridges) (vid : ℕ) (b : Bool) → (cond b (accepted_state t c B) B).tables vid ≡ cond b (table_changed t c (segment_at B.settings vid) vid (B.tables vid)) (B.tables vid)
-table_chosen t c B vid true = refl
-table_chosen t c B vid false = refl
+    by false unseen own = fault_at-same vid B C (ap in_view h) c (named c) (or_false (is_about vid c) own)
 
 viewed_changed : (vid t : ℕ) (c : Change) (B : Bridges) → viewed vid (after_change t c B) ≡ (let left : View = record { settings = seen vid (changed B.settings c); table = cond (is_none (refused B.settings c)) (table_changed t c (segment_at B.settings vid) vid (B.tables vid)) (B.tables vid) } in left)
 viewed_changed vid t c B = λ i. record { settings = seen vid (settings-alone t c B i); table = table_chosen t c B vid (is_none (refused B.settings c)) i }
@@ -171,11 +112,6 @@ change-same vid t B C h c about =
     ∙ (λ i. record { settings = settings i; table = cond (is_none (answers i)) (table_changed t c (own_of (h i).settings) vid (h i).table) (h i).table })
     ∙ sym (viewed_changed vid t c C)
 
-unchanged : (t : ℕ) (c : Change) (o : Option SegmentSettings) (vid : ℕ) (m : Table) → is_about vid c ≡ false → (b : Bool) → cond b (table_changed t c o vid m) m ≡ m
-unchanged t c o vid m other false = refl
-unchanged t c None vid m other true = rw other refl
-unchanged t c (Some s) vid m other true = rw other refl
-
 change-other : (vid t : ℕ) (c : Change) (B : Bridges) → is_about vid c || all_see (effect c) ≡ false → viewed vid (after_change t c B) ≡ viewed vid B
 change-other vid t c B other =
     let both = neither (is_about vid c) (all_see (effect c)) other in
@@ -185,16 +121,16 @@ change-other vid t c B other =
 -- ---- an event
 
 -- what comes to the segment is read alike
-port-same : (vid : ℕ) (S T : Settings) → seen vid S ≡ seen vid T → (port original : ℕ) (b : List ℕ) → is_segment vid (segment_came (came_at S.ports S.overlay port original b)) ≡ true → came_at T.ports T.overlay port original b ≡ came_at S.ports S.overlay port original b
+port-same : (vid : ℕ) (S T : Settings) → seen vid S ≡ seen vid T → (port original : ℕ) (b : List ℕ) → is_segment vid (segment_of (came_at S.ports S.overlay port original b)) ≡ true → came_at T.ports T.overlay port original b ≡ came_at S.ports S.overlay port original b
 port-same vid S T h port original b own =
-    came_at-same vid S.ports T.ports S.overlay T.overlay (ap (λ (x : Seen). x.ports) h) (λ w. ap (λ (x : Seen). x.stands w) h) (ap (λ (x : Seen). x.members) h) (ap (λ (x : Seen). x.segment) h) port original b own
+    came_at-same vid S.ports T.ports S.overlay T.overlay (ap (λ (x : Seen). x.ports) h) (ap (λ (x : Seen). x.members) h) (ap (λ (x : Seen). x.segment) h) port original b own
 
-tunnel-same : (vid : ℕ) (S T : Settings) → seen vid S ≡ seen vid T → (original : ℕ) (b : List ℕ) → is_segment vid (segment_came (came_by S.overlay original b)) ≡ true → came_by T.overlay original b ≡ came_by S.overlay original b
+tunnel-same : (vid : ℕ) (S T : Settings) → seen vid S ≡ seen vid T → (original : ℕ) (b : List ℕ) → is_segment vid (segment_of (came_by S.overlay original b)) ≡ true → came_by T.overlay original b ≡ came_by S.overlay original b
 tunnel-same vid S T h original b own =
     came_by-same vid S.overlay T.overlay (ap (λ (x : Seen). x.underlay) h) (λ w. ap (λ (x : Seen). x.tunnels w) h) (ap (λ (x : Seen). x.segment) h) original b own
 
 -- a decision that carries the segment is of what comes to it
-comes : (vid t : ℕ) (B : Bridges) (r : Result Came Refused) (b : Bool) → is_segment vid (decided t B r).segment ≡ b → is_segment vid (segment_came r) ≡ b
+comes : (vid t : ℕ) (B : Bridges) (r : Result Came Refused) (b : Bool) → is_segment vid (decided t B r).segment ≡ b → is_segment vid (segment_of r) ≡ b
 comes vid t B r b is = sym (ap (is_segment vid) (decided-segment t B r)) ∙ is
 
 module _ (vid t : ℕ) (B C : Bridges) (h : viewed vid B ≡ viewed vid C) where
@@ -204,10 +140,10 @@ module _ (vid t : ℕ) (B C : Bridges) (h : viewed vid B ≡ viewed vid C) where
   pub answer-same : (i : Input) → concerns_by vid (answer_by t B i) i ≡ true → answer_by t B i ≡ answer_by t C i
   answer-same (FrameAt port original b) own =
       let it = comes vid t B (came_at B.settings.ports B.settings.overlay port original b) true own in
-      ap Decided (decided-same vid t B C h (came_at B.settings.ports B.settings.overlay port original b) it ∙ sym (ap (decided t C) (port-same vid B.settings C.settings alike port original b it)))
+      ap Decided (decided-same vid t B C (ap in_view h) (came_at B.settings.ports B.settings.overlay port original b) it ∙ sym (ap (decided t C) (port-same vid B.settings C.settings alike port original b it)))
   answer-same (Packet original b) own =
       let it = comes vid t B (came_by B.settings.overlay original b) true own in
-      ap Decided (decided-same vid t B C h (came_by B.settings.overlay original b) it ∙ sym (ap (decided t C) (tunnel-same vid B.settings C.settings alike original b it)))
+      ap Decided (decided-same vid t B C (ap in_view h) (came_by B.settings.overlay original b) it ∙ sym (ap (decided t C) (tunnel-same vid B.settings C.settings alike original b it)))
   answer-same (Asks c) own = ap Replied (fault-same vid B C h c own)
 
   came-same : (r s : Result Came Refused) → s ≡ r → viewed vid (after_came t B r) ≡ viewed vid (after_came t C s)

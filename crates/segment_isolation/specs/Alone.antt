@@ -6,7 +6,7 @@ use Rattle.std.specs.Prelude.{◌≡◌, ◌≤◌, ℕ, ◌==◌, Bool, true, f
 use Rattle.std.specs.Option.{option_map, option_map_or}
 use Rattle.underlay.specs.declared.tunnels.SegmentTunnel.{SegmentTunnel}
 use Rattle.endpoint_state.specs.Settings.{Settings, SegmentSettings, segment_at}
-use Rattle.endpoint_state.specs.Effect.{Effect, ToFlood, ToBridge, ToLimit, ToMembers, ToPort, Comes, Goes, ToNothing, effect}
+use Rattle.endpoint_state.specs.Effect.{Effect, ToLimit, ToPort, Comes, Goes, effect}
 use Rattle.endpoint_state.specs.Change.{is_about}
 use Rattle.endpoint_state.specs.State.{State as Bridges, aged}
 use Rattle.endpoint_core.specs.Event.{Input, FrameAt, Packet, Asks, Event}
@@ -26,14 +26,11 @@ carries vid (Replied fault) = false
 -- every segment sees it: it is of the ports, or a segment comes, goes or gets another limit, which leaves more or less room
 -- for all others
 abbrev pub all_see : Effect → Bool
-all_see (ToFlood vid change) = false
-all_see (ToBridge vid change) = false
 all_see (ToLimit vid limit) = true
-all_see (ToMembers vid port egress) = false
 all_see (ToPort port up) = true
 all_see (Comes new) = true
 all_see (Goes vid) = true
-all_see ToNothing = false
+all_see _ = false
 
 -- a frame or a packet whose decision carries the segment; a change that names it, or that every segment sees
 abbrev pub concerns_by : ℕ → Answer → Input → Bool

@@ -1,5 +1,5 @@
 -- A part of a run, event by event, beside the whole run.
-use Rattle.std.proofs.Common.{◌≡◌, ℕ, Bool, true, false, cond, List, [], ◌∷◌, Option, Some, Result, Ok, Err, refl, sym, ap, ◌∙◌}
+use Rattle.std.proofs.Common.{◌≡◌, ℕ, Bool, true, false, cond, List, [], ◌∷◌, Option, Some, Result, refl, sym, ap, ◌∙◌}
 use Rattle.std.proofs.Math.Path.{fun_ext}
 use Rattle.frame_view.specs.declared.reason.Refused.{Refused}
 use Rattle.endpoint_state.specs.Settings.{Settings}
@@ -9,7 +9,6 @@ use Rattle.endpoint_core.specs.Arrival.{came_at, came_by}
 use Rattle.endpoint_core.specs.Counts.{Counts, counted}
 use Rattle.endpoint_core.specs.Event.{Input, FrameAt, Packet, Asks, Event}
 use Rattle.endpoint_core.specs.Step.{State, Answer, Decided, Replied, opened, decided, after_came, answer_by, counts_after, answer, after, state_after}
-use Rattle.segment_isolation.proofs.Coming as coming
 use Rattle.segment_isolation.proofs.Stepping.{decided-segment}
 use Rattle.noninterference.specs.Leaving.{told_in}
 use Rattle.segment_set.specs.Segments.{Segments, holds}
@@ -20,17 +19,10 @@ use Rattle.segment_parts.proofs.Counting.{CountsIn, counted-told, counted-untold
 
 -- ---- the segment that is told
 
-came-is : (r : Result Came Refused) → coming.segment_came r ≡ segment_of r
-came-is (Ok x) = refl
-came-is (Err refused) = refl
-
-decided-is : (t : ℕ) (B : Bridges) (r : Result Came Refused) → (decided t B r).segment ≡ segment_of r
-decided-is t B r = decided-segment t B r ∙ came-is r
-
 -- the segment that stands in the line of an event is the one by which it is told
 pub told_in-is : (t : ℕ) (B : Bridges) (i : Input) → told_in i (answer_by t B i) ≡ segment_in B.settings i
-told_in-is t B (FrameAt port original b) = decided-is t B (came_at B.settings.ports B.settings.overlay port original b)
-told_in-is t B (Packet original b) = decided-is t B (came_by B.settings.overlay original b)
+told_in-is t B (FrameAt port original b) = decided-segment t B (came_at B.settings.ports B.settings.overlay port original b)
+told_in-is t B (Packet original b) = decided-segment t B (came_by B.settings.overlay original b)
 told_in-is t B (Asks c) = refl
 
 -- ---- states
@@ -51,8 +43,8 @@ module _ (p : Option ℕ → Bool) where
   Decides segment (Replied fault) = Unit {0}
 
   decides : (t : ℕ) (B : Bridges) (i : Input) → Decides (segment_in B.settings i) (answer_by t B i)
-  decides t B (FrameAt port original b) = decided-is t B (came_at B.settings.ports B.settings.overlay port original b)
-  decides t B (Packet original b) = decided-is t B (came_by B.settings.overlay original b)
+  decides t B (FrameAt port original b) = decided-segment t B (came_at B.settings.ports B.settings.overlay port original b)
+  decides t B (Packet original b) = decided-segment t B (came_by B.settings.overlay original b)
   decides t B (Asks c) = tt
 
   counts-told : (k l : Counts) (segment : Option ℕ) (a : Answer) → CountsIn p k l → Decides segment a → p segment ≡ true → CountsIn p (counts_after k a) (counts_after l a)
@@ -84,7 +76,7 @@ module _ (p : Option ℕ → Bool) where
       aged_twice p t (after_came t (aged t s.bridges) x) r.bridges (came-passed p t (aged t s.bridges) (aged t r.bridges) (aged-alike p t s.bridges r.bridges h.bridges) x other)
 
   uncounted : (s r : State) (t : ℕ) (x : Result Came Refused) → Keeps p s r → p (segment_of x) ≡ false → CountsIn p (counted s.counts (decided t (aged t s.bridges) x)) r.counts
-  uncounted s r t x h other = counted-untold p s.counts r.counts (decided t (aged t s.bridges) x) h.counts (ap p (decided-is t (aged t s.bridges) x) ∙ other)
+  uncounted s r t x h other = counted-untold p s.counts r.counts (decided t (aged t s.bridges) x) h.counts (ap p (decided-segment t (aged t s.bridges) x) ∙ other)
 
   -- an event that isn't told
   kept-untold : (s r : State) (t : ℕ) (i : Input) → Keeps p s r → p (segment_in s.bridges.settings i) ≡ false → Keeps p (after s (event t i)) (after_untold_input t r i)

@@ -1,11 +1,10 @@
 -- Where settings and changes know no segments but by VIDs, a run tells of no others.
-use Rattle.std.proofs.Common.{◌≡◌, ℕ, zero, suc, ◌+◌, ◌==◌, not, Bool, true, false, cond, List, [], ◌∷◌, ◌++◌, map, Option, Some, None, Result, Ok, Err, refl, sym, ap, ◌∙◌, subst}
+use Rattle.std.proofs.Common.{◌≡◌, ℕ, zero, suc, ◌+◌, ◌==◌, not, Bool, true, false, cond, List, [], ◌∷◌, ◌++◌, map, Option, Some, None, Result, Ok, refl, sym, ap, ◌∙◌, subst}
 use Rattle.std.specs.Prelude.{is_none, is_some, slice_index_or}
 use Rattle.std.specs.List.{AllByRecursion, zip}
 use Rattle.std.specs.Option.{option_map_or}
-use Rattle.std.specs.Cmp.{nat_cmp_total}
 use Rattle.std.specs.Ordering.{nat_cmp}
-use Rattle.std.specs.FinMap.{FinMap, empty, get, insert, remove, entries, entries_sorted, get-entries}
+use Rattle.std.specs.FinMap.{FinMap, empty, get, insert, remove}
 use Rattle.std.proofs.lemmas.Bool.{eqb-true, false≢true}
 use Rattle.frame_view.specs.First.{first, unless}
 use Rattle.frame_view.specs.Refusal.{as_refused}
@@ -21,9 +20,8 @@ use Rattle.vlan_ports.specs.Ports.{Ports, port_at, egress_at}
 use Rattle.vlan_ports.specs.Ingress.{nowhere, within, text_reasons, tag_vid, accepts, reasons, vid_at, frame_in, enters}
 use Rattle.vlan_ports.proofs.PlacesLemmas.{get-insert_at, get-remove_at}
 use Rattle.underlay.specs.Overlay as overlay
-use Rattle.underlay.specs.Overlay.{Overlay, flooding, segment_by, has_tunnel}
+use Rattle.underlay.specs.Overlay.{Overlay, flooding, segment_by}
 use Rattle.underlay.specs.declared.segment.Segment.{Segment}
-use Rattle.underlay.proofs.CountLemmas.{found_where}
 use Rattle.flood_lists.specs.Flood.{Entries}
 use Rattle.decapsulate.specs.declared.arrived.Arrived.{Arrived}
 use Rattle.decapsulate.specs.Arrival as arrival
@@ -36,20 +34,22 @@ use Rattle.timeline.specs.declared.source.Tap.TheVariants as taps
 use Rattle.overlay_settings.specs.Rules.{MeetsRules}
 use Rattle.overlay_settings.specs.Settings.{Settings as Rules}
 use Rattle.overlay_settings.specs.declared.change.Change.{Change}
-use Rattle.overlay_settings.specs.declared.change.Change.TheVariants.{AddFlood, RemoveFlood, Fix, Unfix, SetAgeing, SetLearning, SetMember, PortUp, PortDown, Flush, AddSegment, RemoveSegment, SetLimit}
+use Rattle.overlay_settings.specs.declared.change.Change.TheVariants.{AddFlood, RemoveFlood, SetMember, AddSegment}
 use Rattle.endpoint_state.specs.Settings.{Settings, SegmentSettings, segment_at}
 use Rattle.endpoint_state.specs.Effect.{Effect, ToFlood, ToBridge, ToLimit, ToMembers, ToPort, Comes, Goes, ToNothing, effect, applied}
 use Rattle.endpoint_state.specs.Change.{refused, accepted, changed}
 use Rattle.endpoint_state.specs.Opened.{settings_told}
 use Rattle.endpoint_state.proofs.OpenLemmas.{sound-opened}
 use Rattle.endpoint_core.specs.Came.{Came}
-use Rattle.endpoint_core.specs.Arrival.{capture_reasons, entered, let_in, tunnelled, came_at, came_by}
+use Rattle.endpoint_core.specs.Arrival.{capture_reasons, entered, let_in, came_at, came_by}
 use Rattle.endpoint_core.proofs.LetIn.{let_in-segment}
 use Rattle.endpoint_core.specs.Event.{Input, FrameAt, Packet, Asks, Event}
 use Rattle.endpoint_core.specs.Run.{settings_after_input, settings_after, bridges_at, decisions}
 use Rattle.capture_run.specs.Outputs.{no_change, input_of, event_of}
+use Rattle.segment_isolation.proofs.Coming.{by-entered, by-tunnelled}
 use Rattle.segment_isolation.proofs.Entering.{segment_entered}
 use Rattle.segment_isolation.proofs.Arriving.{segment_arrived}
+use Rattle.segment_isolation.proofs.Finding.{found_at}
 use Rattle.endpoint_core.specs.Among.{segment_of, segment_in}
 use Rattle.segment_parts.specs.Pieces.{Told, told_from, IsAsked, HasVids, NamesVid}
 use Rattle.segment_parts.proofs.Telling.{told_in-is}
@@ -93,10 +93,6 @@ enters-asked P port b vids = by (ports.has_segment P (vid_at P port b)) refl
         subst (λ (c : Bool). IsAsked (segment_entered (unless (first (early ++ (nowhere NoSegment, not c) ∷ late)) (Ok (k, frame_in b))))) (sym is)
         (entered-none early late (k, frame_in b) (tt, (tt, (tt, (tt, (tt, (tt, (tt, tt))))))))
 
-by-entered : (port : ℕ) (r : Result (ℕ × Frame) Refused) → IsAsked (segment_entered r) → IsAsked (segment_of (entered port r))
-by-entered port (Ok found) own = own
-by-entered port (Err refused) own = own
-
 came-rows : (rows : List (Refused × Bool)) (r : Result Came Refused) → AllByRecursion (λ (row : Refused × Bool). IsAsked row.0.segment) rows → IsAsked (segment_of r) → IsAsked (segment_of (unless (first rows) r))
 came-rows [] r all own = own
 came-rows (row ∷ rows) r all own = by row.1 (came-rows rows r all.1 own)
@@ -109,7 +105,7 @@ came_at-asked : (P : Ports) (S : Overlay) (port original : ℕ) (b : List ℕ) �
 unfolding came_at
 came_at-asked P S port original b vids =
     came-rows (capture_reasons original b) (let_in S (entered port (enters P port b))) (tt, (tt, tt))
-    (subst IsAsked (sym (let_in-segment S (entered port (enters P port b)))) (by-entered port (enters P port b) (enters-asked P port b vids)))
+    (subst IsAsked (sym (let_in-segment S (entered port (enters P port b)))) (subst IsAsked (sym (by-entered port (enters P port b))) (enters-asked P port b vids)))
 
 -- ---- by a tunnel
 
@@ -123,7 +119,7 @@ arrived-in (Some g) kind a b e vids = arrived-unless (first (inner_reasons g.1 k
 
 -- what is found stands there
 found-there : (S : Overlay) (kind : Tunnel) (vni : ℕ) (g : ℕ × Segment) → segment_by S kind vni ≡ Some g → overlay.has_segment S g.0 ≡ true
-found-there S kind vni g is = ap is_some (get-entries S.segments g.0 ∙ (found_where nat_cmp_total (has_tunnel kind vni) (entries S.segments) g (entries_sorted S.segments) is).0)
+found-there S kind vni g is = ap is_some (found_at S kind vni g is)
 
 module _ (S : Overlay) (vids : (vid : ℕ) → overlay.has_segment S vid ≡ true → IsVid vid) where
   arrived-by : (kind : Option Tunnel) (a b : Addr) (d : List ℕ) → IsAsked (segment_arrived (arrival_by S kind a b d))
@@ -136,13 +132,9 @@ module _ (S : Overlay) (vids : (vid : ℕ) → overlay.has_segment S vid ≡ tru
       arrived-unless (first (arrival.capture_reasons original b)) None _ tt
       (arrived-unless (first (outer_reasons S b)) None _ tt (arrived-by (kind_to S.underlay p) p.source p.destination (data_of p.payload)))
 
-  by-tunnelled : (r : Result Arrived Refused) → IsAsked (segment_arrived r) → IsAsked (segment_of (tunnelled r))
-  by-tunnelled (Ok x) own = own
-  by-tunnelled (Err refused) own = own
-
   came_by-asked : (original : ℕ) (b : List ℕ) → IsAsked (segment_of (came_by S original b))
   unfolding came_by
-  came_by-asked original b = by-tunnelled (arrival_of S original b) (arrived-asked original b)
+  came_by-asked original b = subst IsAsked (sym (by-tunnelled (arrival_of S original b))) (arrived-asked original b)
 
 -- ---- what an event tells of
 
@@ -178,28 +170,16 @@ module _ {X : Type 0} (P : ℕ → Type 0) (m : FinMap nat_cmp X) (each : (w : �
 -- a change is to no segment but by its VID
 abbrev ToVid : Effect → Type 0
 ToVid (ToFlood vid change) = IsVid vid
-ToVid (ToBridge vid change) = Unit {0}
-ToVid (ToLimit vid limit) = Unit {0}
 ToVid (ToMembers vid port egress) = IsVid vid
-ToVid (ToPort port up) = Unit {0}
 ToVid (Comes new) = IsVid new.vid
-ToVid (Goes vid) = Unit {0}
-ToVid ToNothing = Unit {0}
+ToVid e = Unit {0}
 
 effect-vid : (c : Change) → NamesVid c → ToVid (effect c)
 effect-vid (AddFlood vid addr tunnel) own = own
 effect-vid (RemoveFlood vid addr tunnel) own = own
-effect-vid (Fix vid mac target) own = tt
-effect-vid (Unfix vid mac) own = tt
-effect-vid (SetAgeing vid seconds) own = tt
-effect-vid (SetLearning vid on) own = tt
 effect-vid (SetMember vid port egress) own = own
-effect-vid (PortUp port) own = tt
-effect-vid (PortDown port) own = tt
-effect-vid (Flush vid) own = tt
 effect-vid (AddSegment new) own = own
-effect-vid (RemoveSegment vid) own = tt
-effect-vid (SetLimit vid limit) own = tt
+effect-vid c own = tt
 
 flooding-vids : (segments : overlay.Segments) (v : ℕ) (flood : Entries) → IsVid v → ((w : ℕ) → is_some (get segments w) ≡ true → IsVid w) → (w : ℕ) → is_some (get (flooding segments v flood) w) ≡ true → IsVid w
 flooding-vids segments v flood own each = by (get segments v)

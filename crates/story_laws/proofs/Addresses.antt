@@ -1,10 +1,9 @@
 -- The texts of addresses tell the addresses.
-use Rattle.std.proofs.Common.{◌≡◌, ◌≢◌, ◌∙◌, refl, sym, ap, ℕ, zero, suc, ◌+◌, ◌/◌, ◌%◌, ◌^◌, ◌<◌, ◌≤◌, arith, Bool, true, false, cond, eqb, nat_lt, List, [], ◌∷◌, ◌++◌, length, get_or, drop, append_assoc, append-nil}
+use Rattle.std.proofs.Common.{◌≡◌, ◌∙◌, refl, sym, ap, ℕ, zero, suc, ◌+◌, ◌/◌, ◌%◌, ◌<◌, arith, Bool, true, false, cond, nat_lt, List, [], ◌∷◌, ◌++◌, length, get_or, drop, append_assoc, append-nil}
 use Rattle.std.specs.Fmt.{decimal}
 use Rattle.std.specs.Prelude.{codes}
 use Rattle.std.specs.List.{AllByRecursion}
 use Rattle.std.proofs.lemmas.Bool.{ltb-true, ltb-false}
-use Rattle.std.proofs.lemmas.Bool.Decides.{nat_tests}
 use Rattle.std.proofs.lemmas.Fmt.{decimal_injective}
 use Rattle.std.proofs.lemmas.List.{ext_get_or}
 use Rattle.header_octets.specs.Octets.{IsText, octet}
@@ -12,7 +11,8 @@ use Rattle.ip_udp_view.specs.Addr.{IsAddr}
 use Rattle.ip_udp_view.specs.declared.addr.Addr.{Addr}
 use Rattle.ip_udp_view.specs.declared.addr.Addr.TheVariants.{V4, V6}
 use Rattle.endpoint_core.specs.Text.{addr_text, grouped, hex_digit, hex_octet, ip4_text, ip6_text}
-use Rattle.line_words.proofs.Decimals.{IsNoDigit, lacks, lacks_decimal, lacks_more, lacks_one}
+use Rattle.line_words.proofs.Decimals.{IsNoDigit, lacks_more, lacks_one}
+use Rattle.part_lines.proofs.Addresses.{byte_lacks, ip4_lacks, octet_lacks, space_apart}
 use Rattle.story_words.specs.Words.{behind_colons, mac_text}
 use Rattle.story_laws.proofs.Words.{Lacks, spaced, same-words, lacks-none}
 
@@ -32,27 +32,6 @@ octet-same a b small other high low =
     let q : a / 16 ≡ b / 16 = hex-same (a / 16) (b / 16) (omega arith) (omega arith) high in
     let r : a % 16 ≡ b % 16 = hex-same (a % 16) (b % 16) (omega arith) (omega arith) low in
     omega (arith, q, r)
-
--- ---- a character that stands in no address
-
-record IsApart (s : ℕ) : Type 0 where
-  digit : IsNoDigit s
-  letter : (d : ℕ) → d < 16 → 87 + d ≢ s
-  dot : 46 ≢ s
-  colon : 58 ≢ s
-
-space_apart : IsApart 32
-space_apart = record { digit = λ d low e. omega (arith, e); letter = λ d low e. omega (arith, e); dot = λ e. omega (arith, e); colon = λ e. omega (arith, e) }
-
-hex_lacks : (s d : ℕ) → IsApart s → d < 16 → Lacks s (hex_digit d ∷ [])
-hex_lacks s d a low = by (nat_lt d 10) refl
-  where
-    by : (q : Bool) → nat_lt d 10 ≡ q → Lacks s (cond q (48 + d) (87 + d) ∷ [])
-    by true e = lacks_one s (48 + d) (a.digit d (ltb-true d 10 e))
-    by false e = lacks_one s (87 + d) (a.letter d low)
-
-octet_lacks : (s n : ℕ) → IsApart s → n < 256 → Lacks s (hex_octet n)
-octet_lacks s n a low = lacks_more s (hex_digit (n / 16) ∷ []) (hex_digit (n % 16) ∷ []) (hex_lacks s (n / 16) a (omega arith)) (hex_lacks s (n % 16) a (omega arith))
 
 -- ---- MAC addresses
 
@@ -76,13 +55,13 @@ behind-same (x ∷ xs) (y ∷ ys) t u e =
     λ i. head i ∷ rest i
 
 pub mac-same : (a b : List ℕ) → IsText a → IsText b → mac_text a ≡ mac_text b → a ≡ b
-mac-same [] [] t u e = refl
-mac-same [] (y ∷ ys) t u e = absurd cc
-mac-same (x ∷ xs) [] t u e = absurd cc
-mac-same (x ∷ xs) (y ∷ ys) t u e =
-    let head : x ≡ y = octet-same x y (t 0) (u 0) (ap (λ l. get_or l 0 0) e) (ap (λ l. get_or l 1 0) e) in
-    let rest : xs ≡ ys = behind-same xs ys (λ i. t (suc i)) (λ i. u (suc i)) (ap (drop 2) e) in
-    λ i. head i ∷ rest i
+mac-same a b t u e = behind-same a b t u (behind a b e)
+  where
+    behind : (a b : List ℕ) → mac_text a ≡ mac_text b → behind_colons a ≡ behind_colons b
+    behind [] [] e = refl
+    behind [] (y ∷ ys) e = absurd cc
+    behind (x ∷ xs) [] e = absurd cc
+    behind (x ∷ xs) (y ∷ ys) e = ap (λ l. 58 ∷ l) e
 
 -- ---- IPv4
 
@@ -97,9 +76,6 @@ ip4-parts : (b : List ℕ) → ip4_text b ≡ decimal (octet 0 b) ++ spaced 46 (
 ip4-parts b =
     seven (decimal (octet 0 b)) (codes ".") (decimal (octet 1 b)) (codes ".") (decimal (octet 2 b)) (codes ".") (decimal (octet 3 b))
     ∙ ap (λ t. decimal (octet 0 b) ++ (codes "." ++ (decimal (octet 1 b) ++ (codes "." ++ (decimal (octet 2 b) ++ (codes "." ++ t)))))) (sym (append-nil (decimal (octet 3 b))))
-
-byte_lacks : (s : ℕ) (b : List ℕ) (i : ℕ) → IsNoDigit s → IsText b → Lacks s (decimal (octet i b))
-byte_lacks s b i a t = lacks_decimal s (octet i b) a (omega (arith, t i))
 
 no_dot : IsNoDigit 46
 no_dot d low e = omega (arith, e)
@@ -127,39 +103,7 @@ ip4-same b c h k e =
     (byte-same b c 0 h.1 k.1 (ap (λ ws. get_or ws 0 []) same)) (byte-same b c 1 h.1 k.1 (ap (λ ws. get_or ws 1 []) same))
     (byte-same b c 2 h.1 k.1 (ap (λ ws. get_or ws 2 []) same)) (byte-same b c 3 h.1 k.1 (ap (λ ws. get_or ws 3 []) same))
 
-ip4_lacks : (s : ℕ) (b : List ℕ) → IsNoDigit s → 46 ≢ s → IsText b → Lacks s (ip4_text b)
-ip4_lacks s b a dot t =
-    let point = lacks_one s 46 dot in
-    lacks_more s (decimal (octet 0 b) ++ codes "." ++ decimal (octet 1 b) ++ codes "." ++ decimal (octet 2 b) ++ codes ".") (decimal (octet 3 b))
-    (lacks_more s (decimal (octet 0 b) ++ codes "." ++ decimal (octet 1 b) ++ codes "." ++ decimal (octet 2 b)) (codes ".")
-    (lacks_more s (decimal (octet 0 b) ++ codes "." ++ decimal (octet 1 b) ++ codes ".") (decimal (octet 2 b))
-    (lacks_more s (decimal (octet 0 b) ++ codes "." ++ decimal (octet 1 b)) (codes ".")
-    (lacks_more s (decimal (octet 0 b) ++ codes ".") (decimal (octet 1 b))
-    (lacks_more s (decimal (octet 0 b)) (codes ".") (byte_lacks s b 0 a t) point)
-    (byte_lacks s b 1 a t)) point) (byte_lacks s b 2 a t)) point) (byte_lacks s b 3 a t)
-
 -- ---- IPv6
-
-grouped_lacks : (b : List ℕ) → IsText b → Lacks 32 (grouped b)
-grouped_lacks [] t = refl
-grouped_lacks (x ∷ []) t = refl
-grouped_lacks (x ∷ y ∷ b) t =
-    lacks_more 32 (58 ∷ hex_octet x ++ hex_octet y) (grouped b)
-    (lacks_more 32 (58 ∷ hex_octet x) (hex_octet y)
-    (lacks_more 32 (58 ∷ []) (hex_octet x) (lacks_one 32 58 space_apart.colon) (octet_lacks 32 x space_apart (t 0))) (octet_lacks 32 y space_apart (t 1)))
-    (grouped_lacks b (λ i. t (suc (suc i))))
-
-tail_lacks : (s : ℕ) (t : List ℕ) → Lacks s t → Lacks s (drop 1 t)
-tail_lacks s [] h = refl
-tail_lacks s (c ∷ cs) h = by (eqb c s) h
-  where
-    by : (q : Bool) → cond q false (lacks s cs) ≡ true → Lacks s cs
-    by true k = absurd cc
-    by false k = k
-
-pub addr_lacks : (addr : Addr) → IsAddr addr → Lacks 32 (addr_text addr)
-addr_lacks (V4 b) h = ip4_lacks 32 b space_apart.digit space_apart.dot h.1
-addr_lacks (V6 b) h = tail_lacks 32 (grouped b) (grouped_lacks b h.1)
 
 grouped-same : (pairs : ℕ) (b c : List ℕ) → length b ≡ pairs + pairs → length c ≡ pairs + pairs → IsText b → IsText c → grouped b ≡ grouped c → b ≡ c
 grouped-same pairs [] [] h k t u e = refl

@@ -36,42 +36,31 @@ number-same m n p q e = decimal_injective m n p q e
 kind-same : (k l : Tunnel) → tunnel_word k ≡ tunnel_word l → k ≡ l
 kind-same Vxlan Vxlan e = refl
 kind-same Geneve Geneve e = refl
-kind-same Vxlan Geneve e = let first : 118 ≡ 103 = ap (λ w. get_or w 0 0) e in absurd (omega (arith, first))
-kind-same Geneve Vxlan e = let first : 103 ≡ 118 = ap (λ w. get_or w 0 0) e in absurd (omega (arith, first))
+kind-same k l e = absurd cc
 
 truth-same : (a b : Bool) → truth_word a ≡ truth_word b → a ≡ b
 truth-same true true e = refl
 truth-same false false e = refl
-truth-same true false e = let first : 116 ≡ 102 = ap (λ w. get_or w 0 0) e in absurd (omega (arith, first))
-truth-same false true e = let first : 102 ≡ 116 = ap (λ w. get_or w 0 0) e in absurd (omega (arith, first))
+truth-same a b e = absurd cc
 
 peers-same : (a b : PeerRule) → peers_word a ≡ peers_word b → a ≡ b
 peers-same Any Any e = refl
 peers-same Listed Listed e = refl
-peers-same Any Listed e = let first : 97 ≡ 108 = ap (λ w. get_or w 0 0) e in absurd (omega (arith, first))
-peers-same Listed Any e = let first : 108 ≡ 97 = ap (λ w. get_or w 0 0) e in absurd (omega (arith, first))
+peers-same a b e = absurd cc
 
 tags-same : (a b : TagRule) → tags_word a ≡ tags_word b → a ≡ b
 tags-same Drop Drop e = refl
 tags-same Pass Pass e = refl
-tags-same Drop Pass e = let first : 100 ≡ 112 = ap (λ w. get_or w 0 0) e in absurd (omega (arith, first))
-tags-same Pass Drop e = let first : 112 ≡ 100 = ap (λ w. get_or w 0 0) e in absurd (omega (arith, first))
 tags-same Never Never e = refl
-tags-same Drop Never e = let first : 100 ≡ 110 = ap (λ w. get_or w 0 0) e in absurd (omega (arith, first))
-tags-same Pass Never e = let first : 112 ≡ 110 = ap (λ w. get_or w 0 0) e in absurd (omega (arith, first))
-tags-same Never Drop e = let first : 110 ≡ 100 = ap (λ w. get_or w 0 0) e in absurd (omega (arith, first))
-tags-same Never Pass e = let first : 110 ≡ 112 = ap (λ w. get_or w 0 0) e in absurd (omega (arith, first))
+tags-same a b e = let first : get_or (tags_word a) 0 0 ≡ get_or (tags_word b) 0 0 = ap (λ w. get_or w 0 0) e in absurd (omega (arith, first))
 
 egress-same : (a b : Option Egress) → egress_word a ≡ egress_word b → a ≡ b
 egress-same None None e = refl
 egress-same (Some Tagged) (Some Tagged) e = refl
 egress-same (Some Untagged) (Some Untagged) e = refl
-egress-same None (Some Tagged) e = let first : 110 ≡ 116 = ap (λ w. get_or w 0 0) e in absurd (omega (arith, first))
-egress-same None (Some Untagged) e = let first : 110 ≡ 117 = ap (λ w. get_or w 0 0) e in absurd (omega (arith, first))
-egress-same (Some Tagged) None e = let first : 116 ≡ 110 = ap (λ w. get_or w 0 0) e in absurd (omega (arith, first))
-egress-same (Some Tagged) (Some Untagged) e = let first : 116 ≡ 117 = ap (λ w. get_or w 0 0) e in absurd (omega (arith, first))
-egress-same (Some Untagged) None e = let first : 117 ≡ 110 = ap (λ w. get_or w 0 0) e in absurd (omega (arith, first))
-egress-same (Some Untagged) (Some Tagged) e = let first : 117 ≡ 116 = ap (λ w. get_or w 0 0) e in absurd (omega (arith, first))
+egress-same None (Some Tagged) e = absurd cc
+egress-same None (Some Untagged) e = absurd cc
+egress-same a b e = absurd cc
 
 named-same : (a b : Option Tunnel) → named a ≡ named b → a ≡ b
 named-same None None e = refl
@@ -130,66 +119,24 @@ new-same a b p q e =
 abbrev code : List ℕ → ℕ
 code w = get_or w 4 0 * 256 + get_or w 7 0
 
-abbrev kind_number : Change → ℕ
-kind_number (AddFlood vid addr tunnel) = 26223
-kind_number (RemoveFlood vid addr tunnel) = 30310
-kind_number (Fix vid mac to) = 0
-kind_number (Unfix vid mac) = 30720
-kind_number (SetAgeing vid seconds) = 24937
-kind_number (SetLearning vid on) = 27762
-kind_number (SetMember vid port egress) = 28002
-kind_number (PortUp port) = 24320
-kind_number (PortDown port) = 24439
-kind_number (Flush vid) = 26624
-kind_number (AddSegment new) = 29549
-kind_number (RemoveSegment vid) = 30323
-kind_number (SetLimit vid limit) = 27753
-
-coded : (c : Change) → code (kind_of c) ≡ kind_number c
-coded (AddFlood vid addr tunnel) = refl
-coded (RemoveFlood vid addr tunnel) = refl
-coded (Fix vid mac to) = refl
-coded (Unfix vid mac) = refl
-coded (SetAgeing vid seconds) = refl
-coded (SetLearning vid on) = refl
-coded (SetMember vid port egress) = refl
-coded (PortUp port) = refl
-coded (PortDown port) = refl
-coded (Flush vid) = refl
-coded (AddSegment new) = refl
-coded (RemoveSegment vid) = refl
-coded (SetLimit vid limit) = refl
-
-same : (c d : Change) → IsSound c → IsSound d → kind_number c ≡ kind_number d → rest_of c ≡ rest_of d → c ≡ d
+same : (c d : Change) → IsSound c → IsSound d → code (kind_of c) ≡ code (kind_of d) → rest_of c ≡ rest_of d → c ≡ d
 same (AddFlood vid addr tunnel) (AddFlood w other kind) p q k e = λ i. AddFlood (number-same vid w p.0 q.0 (ap (at 1) e) i) (addr-same addr other p.1 q.1 (ap (at 3) e) i) (named-same tunnel kind (ap (drop 4) e) i)
-same (AddFlood vid addr tunnel) d p q k e = absurd (omega (arith, k))
 same (RemoveFlood vid addr tunnel) (RemoveFlood w other kind) p q k e = λ i. RemoveFlood (number-same vid w p.0 q.0 (ap (at 1) e) i) (addr-same addr other p.1 q.1 (ap (at 3) e) i) (named-same tunnel kind (ap (drop 4) e) i)
-same (RemoveFlood vid addr tunnel) d p q k e = absurd (omega (arith, k))
 same (Fix vid mac to) (Fix w other there) p q k e = λ i. Fix (number-same vid w p.0 q.0 (ap (at 1) e) i) (mac-same mac other p.1 q.1 (ap (at 3) e) i) (target-same to there p.2 q.2 (ap (drop 4) e) i)
-same (Fix vid mac to) d p q k e = absurd (omega (arith, k))
 same (Unfix vid mac) (Unfix w other) p q k e = λ i. Unfix (number-same vid w p.0 q.0 (ap (at 1) e) i) (mac-same mac other p.1 q.1 (ap (at 3) e) i)
-same (Unfix vid mac) d p q k e = absurd (omega (arith, k))
 same (SetAgeing vid seconds) (SetAgeing w other) p q k e = λ i. SetAgeing (number-same vid w p.0 q.0 (ap (at 1) e) i) (number-same seconds other p.1 q.1 (ap (at 3) e) i)
-same (SetAgeing vid seconds) d p q k e = absurd (omega (arith, k))
 same (SetLearning vid on) (SetLearning w other) p q k e = λ i. SetLearning (number-same vid w p q (ap (at 1) e) i) (truth-same on other (ap (at 3) e) i)
-same (SetLearning vid on) d p q k e = absurd (omega (arith, k))
 same (SetMember vid port egress) (SetMember w other how) p q k e = λ i. SetMember (number-same vid w p.0 q.0 (ap (at 1) e) i) (number-same port other p.1 q.1 (ap (at 3) e) i) (egress-same egress how (ap (at 5) e) i)
-same (SetMember vid port egress) d p q k e = absurd (omega (arith, k))
 same (PortUp port) (PortUp other) p q k e = ap PortUp (number-same port other p q (ap (at 1) e))
-same (PortUp port) d p q k e = absurd (omega (arith, k))
 same (PortDown port) (PortDown other) p q k e = ap PortDown (number-same port other p q (ap (at 1) e))
-same (PortDown port) d p q k e = absurd (omega (arith, k))
 same (Flush vid) (Flush w) p q k e = ap Flush (number-same vid w p q (ap (at 1) e))
-same (Flush vid) d p q k e = absurd (omega (arith, k))
 same (AddSegment new) (AddSegment other) p q k e = ap AddSegment (new-same new other p q e)
-same (AddSegment new) d p q k e = absurd (omega (arith, k))
 same (RemoveSegment vid) (RemoveSegment w) p q k e = ap RemoveSegment (number-same vid w p q (ap (at 1) e))
-same (RemoveSegment vid) d p q k e = absurd (omega (arith, k))
 same (SetLimit vid limit) (SetLimit w other) p q k e = λ i. SetLimit (number-same vid w p.0 q.0 (ap (at 1) e) i) (number-same limit other p.1 q.1 (ap (at 3) e) i)
-same (SetLimit vid limit) d p q k e = absurd (omega (arith, k))
+same c d p q k e = absurd (omega (arith, k))
 
 pub change-same : (c d : Change) → IsSound c → IsSound d → change_text c ≡ change_text d → c ≡ d
 change-same c d p q e =
     let words : kind_of c ∷ rest_of c ≡ kind_of d ∷ rest_of d =
     same-words 32 (kind_of c) (kind_of d) (rest_of c) (rest_of d) (words_lack c p) (words_lack d q) (sym (text-words c p) ∙ e ∙ text-words d q) in
-    same c d p q (sym (coded c) ∙ ap (λ ws. code (at 0 ws)) words ∙ coded d) (ap (drop 1) words)
+    same c d p q (ap (λ ws. code (at 0 ws)) words) (ap (drop 1) words)

@@ -102,44 +102,30 @@ folded-tells (f ∷ fs) ones = from-tells f fs (rises f ones.0) ones.1 ∙ all_a
 
 -- ---- no two of them are one
 
+-- what doesn't join a fact doesn't join it where it may come
+stays : (join : Fact → Option Fact) (q : Bool) (h : Fact) → join h ≡ None → IfSome (cond q (Some h) None) (λ h. join h ≡ None)
+stays join false h none = tt
+stays join true h none = none
+
+-- what doesn't join some ports doesn't join them where they are more
+longer : (P : ℕ → ℕ → Fact) (a last end : ℕ) (p : Bool) → cond p (Some (P a last)) None ≡ None → cond p (Some (P a end)) None ≡ None
+longer P a last end false is = refl
+longer P a last end true is = absurd cc
+
 -- what ports that are down don't join, they don't join either once that has taken in another
 stays-down : (a b : ℕ) (g k : Fact) → down_joined a b g ≡ None → IfSome (joined g k) (λ h. down_joined a b h ≡ None)
-stays-down a b (facts.PortsDown first last) (facts.PortsDown next end) none = by (next == last + 1) (longer (first == b + 1) none)
-  where
-    longer : (p : Bool) → cond p (Some (facts.PortsDown a last)) None ≡ None → cond p (Some (facts.PortsDown a end)) None ≡ None
-    longer false is = refl
-    longer true is = absurd cc
-
-    by : (q : Bool) → down_joined a b (facts.PortsDown first end) ≡ None
-        → IfSome (cond q (Some (facts.PortsDown first end)) None) (λ h. down_joined a b h ≡ None)
-    by false is = tt
-    by true is = is
-stays-down a b (facts.NoMembers first last) (facts.NoMembers next end) none = by (next == last + 1)
-  where
-    by : (q : Bool) → IfSome (cond q (Some (facts.NoMembers first end)) None) (λ h. down_joined a b h ≡ None)
-    by false = tt
-    by true = refl
+stays-down a b (facts.PortsDown first last) (facts.PortsDown next end) none =
+    stays (down_joined a b) (next == last + 1) (facts.PortsDown first end) (longer facts.PortsDown a last end (first == b + 1) none)
+stays-down a b (facts.NoMembers first last) (facts.NoMembers next end) none = stays (down_joined a b) (next == last + 1) (facts.NoMembers first end) refl
 stays-down a b (facts.PortsDown first last) k none = tt
 stays-down a b (facts.NoMembers first last) k none = tt
 stays-down a b g k none = tt
 
 -- the same of ports that are no members
 stays-outside : (a b : ℕ) (g k : Fact) → outside_joined a b g ≡ None → IfSome (joined g k) (λ h. outside_joined a b h ≡ None)
-stays-outside a b (facts.NoMembers first last) (facts.NoMembers next end) none = by (next == last + 1) (longer (first == b + 1) none)
-  where
-    longer : (p : Bool) → cond p (Some (facts.NoMembers a last)) None ≡ None → cond p (Some (facts.NoMembers a end)) None ≡ None
-    longer false is = refl
-    longer true is = absurd cc
-
-    by : (q : Bool) → outside_joined a b (facts.NoMembers first end) ≡ None
-        → IfSome (cond q (Some (facts.NoMembers first end)) None) (λ h. outside_joined a b h ≡ None)
-    by false is = tt
-    by true is = is
-stays-outside a b (facts.PortsDown first last) (facts.PortsDown next end) none = by (next == last + 1)
-  where
-    by : (q : Bool) → IfSome (cond q (Some (facts.PortsDown first end)) None) (λ h. outside_joined a b h ≡ None)
-    by false = tt
-    by true = refl
+stays-outside a b (facts.NoMembers first last) (facts.NoMembers next end) none =
+    stays (outside_joined a b) (next == last + 1) (facts.NoMembers first end) (longer facts.NoMembers a last end (first == b + 1) none)
+stays-outside a b (facts.PortsDown first last) (facts.PortsDown next end) none = stays (outside_joined a b) (next == last + 1) (facts.PortsDown first end) refl
 stays-outside a b (facts.NoMembers first last) k none = tt
 stays-outside a b (facts.PortsDown first last) k none = tt
 stays-outside a b g k none = tt

@@ -1,5 +1,5 @@
 -- The words of a change, and its text by them.
-use Rattle.std.proofs.Common.{◌≡◌, ◌∙◌, refl, sym, ap, ℕ, arith, Bool, true, false, cond, List, [], ◌∷◌, ◌++◌, Option, Some, None, append_assoc, append-nil}
+use Rattle.std.proofs.Common.{◌≡◌, ◌∙◌, refl, sym, ap, ℕ, Bool, true, false, cond, List, [], ◌∷◌, ◌++◌, Option, Some, None, append_assoc, append-nil}
 use Rattle.std.specs.Fmt.{decimal}
 use Rattle.std.specs.Prelude.{codes}
 use Rattle.std.specs.List.{AllByRecursion}
@@ -21,11 +21,12 @@ use Rattle.overlay_settings.specs.declared.change.NewSegment.{NewSegment}
 use Rattle.overlay_settings.specs.declared.change.Target.{Target}
 use Rattle.overlay_settings.specs.declared.change.Target.TheVariants as target
 use Rattle.endpoint_core.specs.Text.{addr_text}
-use Rattle.line_words.proofs.Decimals.{IsNoDigit, lacks_decimal}
+use Rattle.line_words.proofs.Decimals.{lacks_decimal}
+use Rattle.part_lines.proofs.Addresses.{addr_lacks, space_apart}
 use Rattle.story_words.specs.Words.{mac_text, tunnel_word}
 use Rattle.change_story.specs.Change.{change_text, egress_name, first_text, named_text, numbers_text, other_kind, peers_word, rules_text, second_text, tags_word, target_text, truth_word, tunnels_text}
 use Rattle.story_laws.specs.Told.{AreTunnels, IsNumber, IsSound, IsTarget}
-use Rattle.story_laws.proofs.Addresses.{addr_lacks, mac_lacks}
+use Rattle.story_laws.proofs.Addresses.{mac_lacks}
 use Rattle.story_laws.proofs.Words.{Lacks, spaced}
 
 -- ---- the words of a change
@@ -208,11 +209,8 @@ text-words (SetLimit vid limit) p = twice (codes "set_limit") (codes " vid ") (d
 
 -- ---- no word has a space
 
-no_digit : IsNoDigit 32
-no_digit d low e = omega (arith, e)
-
 number_lacks : (n : ℕ) → IsNumber n → Lacks 32 (decimal n)
-number_lacks n small = lacks_decimal 32 n no_digit small
+number_lacks n small = lacks_decimal 32 n space_apart.digit small
 
 abbrev pub All_lack : List (List ℕ) → Type 0
 All_lack ws = AllByRecursion (Lacks 32) ws
@@ -228,7 +226,7 @@ kind_lacks Geneve = refl
 
 target_lacks : (to : Target) → IsTarget to → All_lack (target_words to)
 target_lacks (target.Local port) p = (refl, (number_lacks port p, tt))
-target_lacks (target.Remote addr tunnel) p = (refl, (addr_lacks addr p, named_lacks tunnel))
+target_lacks (target.Remote addr tunnel) p = (refl, (addr_lacks 32 addr space_apart p, named_lacks tunnel))
 
 egress_lacks : (egress : Option Egress) → Lacks 32 (egress_word egress)
 egress_lacks None = refl
@@ -255,8 +253,8 @@ tunnels_lack (t ∷ u ∷ []) rest are more = (refl, (number_lacks t.vni are.0.0
 tunnels_lack (t ∷ u ∷ v ∷ others) rest are more = absurd are
 
 pub words_lack : (c : Change) → IsSound c → All_lack (kind_of c ∷ rest_of c)
-words_lack (AddFlood vid addr tunnel) p = (refl, (refl, (number_lacks vid p.0, (refl, (addr_lacks addr p.1, named_lacks tunnel)))))
-words_lack (RemoveFlood vid addr tunnel) p = (refl, (refl, (number_lacks vid p.0, (refl, (addr_lacks addr p.1, named_lacks tunnel)))))
+words_lack (AddFlood vid addr tunnel) p = (refl, (refl, (number_lacks vid p.0, (refl, (addr_lacks 32 addr space_apart p.1, named_lacks tunnel)))))
+words_lack (RemoveFlood vid addr tunnel) p = (refl, (refl, (number_lacks vid p.0, (refl, (addr_lacks 32 addr space_apart p.1, named_lacks tunnel)))))
 words_lack (Fix vid mac to) p = (refl, (refl, (number_lacks vid p.0, (refl, (mac_lacks mac p.1, target_lacks to p.2)))))
 words_lack (Unfix vid mac) p = (refl, (refl, (number_lacks vid p.0, (refl, (mac_lacks mac p.1, tt)))))
 words_lack (SetAgeing vid seconds) p = (refl, (refl, (number_lacks vid p.0, (refl, (number_lacks seconds p.1, tt)))))

@@ -3,7 +3,7 @@ use Rattle.std.proofs.Common.{◌≡◌, ◌∙◌, refl, sym, ap, ℕ, Bool, tr
 use Rattle.std.specs.Option.{option_and_then}
 use Rattle.std.proofs.lemmas.Bool.{false≢true}
 use Rattle.overlay_settings.specs.declared.change.Change.{Change}
-use Rattle.overlay_settings.specs.declared.change.Change.TheVariants.{AddFlood, RemoveFlood, Fix, Unfix, SetAgeing, SetLearning, SetMember, PortUp, PortDown, Flush, AddSegment, RemoveSegment, SetLimit}
+use Rattle.overlay_settings.specs.declared.change.Change.TheVariants.{AddSegment, SetLimit}
 use Rattle.endpoint_state.specs.declared.fault.ChangeFault.{ChangeFault}
 use Rattle.endpoint_state.specs.Effect.{effect}
 use Rattle.endpoint_state.specs.Change.{named, is_about, refused, table_fault}
@@ -73,19 +73,9 @@ module _ (vid : ℕ) where
 
   -- no table refuses one
   faultless : (B : Bridges) (c : Change) → takes_room (effect c) ≡ true → option_and_then (λ v. option_and_then (λ s. table_fault s c (B.tables v)) (segment_at B.settings v)) (named c) ≡ None
-  faultless B (AddFlood v addr tunnel) takes = absurd (false≢true takes)
-  faultless B (RemoveFlood v addr tunnel) takes = absurd (false≢true takes)
-  faultless B (Fix v mac target) takes = absurd (false≢true takes)
-  faultless B (Unfix v mac) takes = absurd (false≢true takes)
-  faultless B (SetAgeing v seconds) takes = absurd (false≢true takes)
-  faultless B (SetLearning v on) takes = absurd (false≢true takes)
-  faultless B (SetMember v port egress) takes = absurd (false≢true takes)
-  faultless B (PortUp port) takes = absurd (false≢true takes)
-  faultless B (PortDown port) takes = absurd (false≢true takes)
-  faultless B (Flush v) takes = absurd (false≢true takes)
   faultless B (AddSegment new) takes = none_there (segment_at B.settings new.vid)
-  faultless B (RemoveSegment v) takes = absurd (false≢true takes)
   faultless B (SetLimit v limit) takes = none_there (segment_at B.settings v)
+  faultless B c takes = absurd (false≢true takes)
 
   or_none : (o p : Option ChangeFault) → p ≡ None → (let first : Option ChangeFault = elim o [ Some why ↦ Some why | None ↦ p ] in first) ≡ o
   or_none None p none = none

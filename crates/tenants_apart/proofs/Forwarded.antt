@@ -1,10 +1,9 @@
 -- What comes to a bridge, by a port or by a tunnel, is forwarded; and a whole record comes as it enters.
-use Rattle.std.proofs.Common.{◌≡◌, ℕ, ◌≤◌, List, length, drop, Option, Some, None, Result, Ok, Err, refl, ap, ◌∙◌, subst, arith}
+use Rattle.std.proofs.Common.{◌≡◌, ℕ, ◌≤◌, List, length, Option, Some, None, Result, Ok, Err, refl, ap, ◌∙◌, subst, arith}
 use Rattle.std.proofs.lemmas.Bool.{ltb-false, le-ltb}
-use Rattle.std.proofs.lemmas.List.{length-take, length-drop}
 use Rattle.header_octets.specs.Octets.{IsText}
 use Rattle.frame_view.specs.First.{first, unless}
-use Rattle.frame_view.specs.Frame.{Frame, IsFrame, frame_of}
+use Rattle.frame_view.specs.Frame.{Frame, frame_of}
 use Rattle.frame_view.specs.declared.reason.Refused.{Refused}
 use Rattle.frame_view.proofs.FirstLemmas.{NothingHolds-from, first-nothing, unless-ok, same_Ok}
 use Rattle.frame_view.proofs.RefusalLemmas.{refused-ok}
@@ -19,6 +18,7 @@ use Rattle.underlay.specs.Overlay.{Overlay, segment_by}
 use Rattle.underlay.specs.declared.segment.Segment.{Segment}
 use Rattle.decapsulate.specs.Arrival.{capture_reasons as packet_reasons, outer_reasons, inner_reasons, packet_in, kind_to, vni_of, inner_of, arrival_in, arrival_by, arrival, arrival_of}
 use Rattle.decapsulate.specs.declared.arrived.Arrived.{Arrived}
+use Rattle.decapsulate.proofs.ArrivesLemmas.{is_frame-from}
 use Rattle.endpoint_core.specs.Came.{Came}
 use Rattle.endpoint_core.specs.Arrival.{capture_reasons, entered, let_in, tunnelled, came_at, came_by}
 use Rattle.endpoint_core.proofs.LetIn.{let_in-ok}
@@ -46,14 +46,6 @@ frame-forwarded s o port original b came text h =
     record { is_frame = it.text.is_frame; source_is_individual = it.source_is_individual; destination_is_forwarded = it.destination_is_forwarded }
 
 -- ---- by a tunnel
-
-is_frame-from : (e : List ℕ) → 14 ≤ length e → IsFrame (frame_of e)
-is_frame-from e h = record {
-  dst = omega (arith, length-take 6 e);
-  src = omega (arith, length-take 6 (drop 6 e), length-drop 6 e);
-  pcp = omega arith;
-  body = omega (arith, length-drop 12 e);
-}
 
 in_segment : (g : Option (ℕ × Segment)) (kind : Tunnel) (a b : Addr) (e : List ℕ) (x : Arrived) → arrival_in g kind a b e ≡ Ok x → IsForwarded x.frame
 in_segment None kind a b e x h = absurd cc

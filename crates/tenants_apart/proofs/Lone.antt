@@ -25,7 +25,7 @@ use Rattle.overlay_settings.specs.declared.change.NewSegment.{NewSegment}
 use Rattle.endpoint_state.specs.declared.fault.ChangeFault.{ChangeFault}
 use Rattle.endpoint_state.specs.declared.fault.ChangeFault.TheVariants.{OutOfRange, SegmentThere, SegmentsFull, PoolFull}
 use Rattle.endpoint_state.specs.Settings.{Settings, BridgeSettings, SegmentSettings, segment_at, tables_asked}
-use Rattle.endpoint_state.specs.Effect.{Effect, ToFlood, ToBridge, ToLimit, ToMembers, ToPort, Comes, Goes, ToNothing, effect, applied}
+use Rattle.endpoint_state.specs.Effect.{Effect, ToFlood, effect, applied}
 use Rattle.endpoint_state.specs.Change.{named, is_about, in_segment, is_limit, is_ageing, are_vnis, is_taken, is_too_much, refused, accepted, changed}
 use Rattle.endpoint_core.specs.Event.{Input, FrameAt, Packet, Asks, Event}
 use Rattle.endpoint_core.specs.Run.{settings_after_input}
@@ -174,19 +174,9 @@ module _ (vid : ℕ) (S T : Settings) (h : part_of vid S ≡ part_of vid T) (lon
             λ i. wants_room (first ((PoolFull, much i) ∷ []))
 
     change-calm : (c : Change) → asks_room vid c ≡ true → is_about vid c ≡ true → wants_room (refused S c) ≡ false → wants_room (refused T c) ≡ false
-    change-calm (AddFlood v addr tunnel) asks is x = absurd (false≢true asks)
-    change-calm (RemoveFlood v addr tunnel) asks is x = absurd (false≢true asks)
-    change-calm (Fix v mac target) asks is x = absurd (false≢true asks)
-    change-calm (Unfix v mac) asks is x = absurd (false≢true asks)
-    change-calm (SetAgeing v seconds) asks is x = absurd (false≢true asks)
-    change-calm (SetLearning v on) asks is x = absurd (false≢true asks)
-    change-calm (SetMember v port egress) asks is x = absurd (false≢true asks)
-    change-calm (PortUp port) asks is x = absurd (false≢true asks)
-    change-calm (PortDown port) asks is x = absurd (false≢true asks)
-    change-calm (Flush v) asks is x = absurd (false≢true asks)
     change-calm (AddSegment new) asks is x = comes-calm new is x
-    change-calm (RemoveSegment v) asks is x = absurd (false≢true asks)
     change-calm (SetLimit v limit) asks is x = limited-calm limit (segment_at S v) (segment_at T v) (segment-same v is) x
+    change-calm c asks is x = absurd (false≢true asks)
 
     reply-lone : (i : Input) → Calm (room_reply vid S i) → AreRoomAlike vid S T i × (room_reply vid S i ≡ room_reply vid T i)
     reply-lone (FrameAt port original b) calm = (tt, refl)
@@ -209,13 +199,7 @@ pool-applied (ToFlood v change) S = by (segment_at S v)
     by : (o : Option SegmentSettings) → (option_map_or (λ s. let left : Settings = record S { overlay = with_flood S.overlay v (change s) } in left) o S).pool ≡ S.pool
     by None = refl
     by (Some s) = refl
-pool-applied (ToBridge v change) S = refl
-pool-applied (ToLimit v limit) S = refl
-pool-applied (ToMembers v port egress) S = refl
-pool-applied (ToPort port up) S = refl
-pool-applied (Comes new) S = refl
-pool-applied (Goes v) S = refl
-pool-applied ToNothing S = refl
+pool-applied e S = refl
 
 pool-changed : (S : Settings) (c : Change) → (changed S c).pool ≡ S.pool
 pool-changed S c = by (is_none (refused S c))

@@ -6,7 +6,7 @@ use Rattle.std.proofs.lemmas.Option.{none-some}
 use Rattle.frame_view.specs.First.{first}
 use Rattle.filter_db.specs.Standing.{sum_of_limits, segment_count}
 use Rattle.overlay_settings.specs.declared.change.Change.{Change}
-use Rattle.overlay_settings.specs.declared.change.Change.TheVariants.{AddFlood, RemoveFlood, Fix, Unfix, SetAgeing, SetLearning, SetMember, PortUp, PortDown, Flush, AddSegment, RemoveSegment, SetLimit}
+use Rattle.overlay_settings.specs.declared.change.Change.TheVariants.{AddSegment, SetLimit}
 use Rattle.overlay_settings.specs.declared.change.NewSegment.{NewSegment}
 use Rattle.endpoint_state.specs.declared.fault.ChangeFault.{ChangeFault}
 use Rattle.endpoint_state.specs.declared.fault.ChangeFault.TheVariants.{OutOfRange, SegmentThere, SegmentsFull, PoolFull}
@@ -72,19 +72,9 @@ pub refused-calm : (vid : ℕ) (S T : Settings) (c : Change) → part_of vid S �
 refused-calm vid S T c h about calm quiet = refused-own vid S T h c about (by c about calm quiet)
   where
     by : (c : Change) → is_about vid c ≡ true → wants_room (refused S c) ≡ false → wants_room (refused T c) ≡ false → asks_room vid c ≡ true → refused S c ≡ refused T c
-    by (AddFlood v addr tunnel) is x y asks = absurd (false≢true asks)
-    by (RemoveFlood v addr tunnel) is x y asks = absurd (false≢true asks)
-    by (Fix v mac target) is x y asks = absurd (false≢true asks)
-    by (Unfix v mac) is x y asks = absurd (false≢true asks)
-    by (SetAgeing v seconds) is x y asks = absurd (false≢true asks)
-    by (SetLearning v on) is x y asks = absurd (false≢true asks)
-    by (SetMember v port egress) is x y asks = absurd (false≢true asks)
-    by (PortUp port) is x y asks = absurd (false≢true asks)
-    by (PortDown port) is x y asks = absurd (false≢true asks)
-    by (Flush v) is x y asks = absurd (false≢true asks)
     by (AddSegment new) is x y asks = comes-same S T (ap (λ (p : Part). p.underlay.limits.entries) h) new x y
-    by (RemoveSegment v) is x y asks = absurd (false≢true asks)
     by (SetLimit v limit) is x y asks = limited-same S T (ap (λ (p : Part). p.underlay.limits.entries) h) limit (segment_at S v) (segment_at T v) (ap whole_of (part-named vid v S T h is)) x y
+    by c is x y asks = absurd (false≢true asks)
 
 -- ---- the settings after an event
 

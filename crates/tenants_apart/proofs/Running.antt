@@ -1,20 +1,15 @@
 -- Two runs that agree in a segment's own events, as far as the one goes.
-use Rattle.std.proofs.Common.{◌≡◌, ℕ, ◌≤◌, Bool, true, false, cond, ◌&&◌, List, [], ◌∷◌, ◌++◌, map, Option, Result, Ok, Err, refl, sym, ap, ◌∙◌, subst, le_trans, le_refl, append_assoc, append-nil}
-use Rattle.std.specs.Prelude.{is_none}
+use Rattle.std.proofs.Common.{◌≡◌, ℕ, ◌≤◌, Bool, true, false, cond, ◌&&◌, List, [], ◌∷◌, ◌++◌, map, Option, refl, sym, ap, ◌∙◌, subst, le_trans, le_refl, append_assoc, append-nil}
 use Rattle.std.proofs.lemmas.Bool.{false≢true}
-use Rattle.frame_view.specs.declared.reason.Refused.{Refused}
-use Rattle.overlay_settings.specs.declared.change.Change.{Change}
 use Rattle.endpoint_state.specs.declared.fault.ChangeFault.{ChangeFault}
 use Rattle.endpoint_state.specs.Settings.{Settings}
 use Rattle.endpoint_state.specs.Effect.{effect}
-use Rattle.endpoint_state.specs.Change.{refused, accepted}
-use Rattle.endpoint_state.specs.State.{State as Bridges, live_in, aged, accepted_state}
-use Rattle.endpoint_core.specs.Came.{Came}
-use Rattle.endpoint_core.specs.Arrival.{came_at, came_by}
+use Rattle.endpoint_state.specs.Change.{refused}
+use Rattle.endpoint_state.specs.State.{live_in, aged}
 use Rattle.endpoint_core.specs.Event.{Input, FrameAt, Packet, Asks, Event, IsRising}
 use Rattle.endpoint_core.specs.Run.{settings_after_input}
-use Rattle.endpoint_core.specs.Step.{State, after_came, bridges_after, answer, after}
-use Rattle.endpoint_core.proofs.Runs.{live_in-live_in}
+use Rattle.endpoint_core.specs.Step.{State, answer, after}
+use Rattle.endpoint_core.proofs.Runs.{live_in-live_in, settings-event}
 use Rattle.noninterference.specs.Leaving.{Row}
 use Rattle.tenants_apart.specs.Own.{names_or_concerns, own_events, takes_room, asks_room, room_reply, room_replies, own_rows}
 use Rattle.tenants_apart.proofs.Stepping.{Own, owned, AreRoomAlike, answer-same, after-same, after-other}
@@ -40,19 +35,6 @@ aged_own-twice : (t u : ℕ) (w : Own) → t ≤ u → aged_own u (aged_own t w)
 aged_own-twice t u w h = ap (λ m. let left : Own = record { settings = w.settings; table = m } in left) (live_in-live_in w.settings.bridge t u w.table h)
 
 -- ---- the settings in force
-
-settings-frame : (t : ℕ) (B : Bridges) (r : Result Came Refused) → (after_came t B r).settings ≡ B.settings
-settings-frame t B (Ok x) = refl
-settings-frame t B (Err refused) = refl
-
-settings-chosen : (b : Bool) (t : ℕ) (c : Change) (B : Bridges) → (cond b (accepted_state t c B) B).settings ≡ cond b (accepted B.settings c) B.settings
-settings-chosen true t c B = refl
-settings-chosen false t c B = refl
-
-settings-event : (t : ℕ) (B : Bridges) (i : Input) → (bridges_after t B i).settings ≡ settings_after_input B.settings i
-settings-event t B (FrameAt port original b) = settings-frame t B (came_at B.settings.ports B.settings.overlay port original b)
-settings-event t B (Packet original b) = settings-frame t B (came_by B.settings.overlay original b)
-settings-event t B (Asks c) = settings-chosen (is_none (refused B.settings c)) t c B
 
 pub settings-after : (s : State) (e : Event) → (after s e).bridges.settings ≡ settings_after_input s.bridges.settings e.input
 settings-after s e = settings-event e.at (aged e.at s.bridges) e.input

@@ -3,11 +3,11 @@ use Rattle.std.proofs.Common.{◌≡◌, ◌∙◌, refl, sym, ap, ℕ, List, []
 use Rattle.endpoint_state.specs.Settings.{Settings}
 use Rattle.endpoint_core.specs.Event.{Event, IsRising}
 use Rattle.endpoint_core.specs.Step.{State, opened, after, state_after}
-use Rattle.noninterference.specs.Leaving.{rows, departures_in, lines_in}
+use Rattle.noninterference.specs.Leaving.{Row, rows, departures_in, lines_in}
 use Rattle.tenants_apart.specs.Own.{part_of, own_events, room_replies, IsOneFront}
-use Rattle.tenants_apart.proofs.Events.{leaving-alike, lines-alike}
+use Rattle.tenants_apart.proofs.Events.{read-alike}
 use Rattle.tenants_apart.proofs.Running.{row_of, same-head, same-tail}
-use Rattle.tenants_apart.proofs.Telling.{departures-append, lines-append}
+use Rattle.tenants_apart.proofs.Telling.{Reads, reads-departures, reads-lines}
 
 -- of two fronts of one list one is a front of the other
 longer : {A : Type 0} (x y : A) (xs ys : List A) → x ≡ y → IsOneFront xs ys → IsOneFront (x ∷ xs) (y ∷ ys)
@@ -26,22 +26,18 @@ rows-append s (e ∷ es) later = ap (λ l. row_of s e ∷ l) (rows-append (after
 
 module _ (vid : ℕ) (S T : Settings) (es later fs others : List Event) (up : IsRising 0 (es ++ later)) (rising : IsRising 0 (fs ++ others))
     (same : part_of vid S ≡ part_of vid T) (events : own_events vid S (es ++ later) ≡ own_events vid T (fs ++ others)) (replies : room_replies vid S (es ++ later) ≡ room_replies vid T (fs ++ others)) where
-  pub leaving-stopped : IsOneFront (departures_in vid (rows (opened S) es)) (departures_in vid (rows (opened T) fs))
-  leaving-stopped =
+  read-stopped : {A : Type 0} (f : List Row → List A) → Reads A vid f → IsOneFront (f (rows (opened S) es)) (f (rows (opened T) fs))
+  read-stopped f reads =
       let mine = rows (state_after (opened S) es) later in
       let theirs = rows (state_after (opened T) fs) others in
-      two-fronts (departures_in vid (rows (opened S) es)) (departures_in vid mine) (departures_in vid (rows (opened T) fs)) (departures_in vid theirs)
-      (sym (ap (departures_in vid) (rows-append (opened S) es later) ∙ departures-append vid (rows (opened S) es) mine)
-      ∙ leaving-alike vid S T (es ++ later) (fs ++ others) up rising same events replies
-      ∙ ap (departures_in vid) (rows-append (opened T) fs others)
-      ∙ departures-append vid (rows (opened T) fs) theirs)
+      two-fronts (f (rows (opened S) es)) (f mine) (f (rows (opened T) fs)) (f theirs)
+      (sym (ap f (rows-append (opened S) es later) ∙ reads.append (rows (opened S) es) mine)
+      ∙ read-alike vid f reads S T (es ++ later) (fs ++ others) up rising same events replies
+      ∙ ap f (rows-append (opened T) fs others)
+      ∙ reads.append (rows (opened T) fs) theirs)
+
+  pub leaving-stopped : IsOneFront (departures_in vid (rows (opened S) es)) (departures_in vid (rows (opened T) fs))
+  leaving-stopped = read-stopped (departures_in vid) (reads-departures vid)
 
   pub lines-stopped : IsOneFront (lines_in vid (rows (opened S) es)) (lines_in vid (rows (opened T) fs))
-  lines-stopped =
-      let mine = rows (state_after (opened S) es) later in
-      let theirs = rows (state_after (opened T) fs) others in
-      two-fronts (lines_in vid (rows (opened S) es)) (lines_in vid mine) (lines_in vid (rows (opened T) fs)) (lines_in vid theirs)
-      (sym (ap (lines_in vid) (rows-append (opened S) es later) ∙ lines-append vid (rows (opened S) es) mine)
-      ∙ lines-alike vid S T (es ++ later) (fs ++ others) up rising same events replies
-      ∙ ap (lines_in vid) (rows-append (opened T) fs others)
-      ∙ lines-append vid (rows (opened T) fs) theirs)
+  lines-stopped = read-stopped (lines_in vid) (reads-lines vid)

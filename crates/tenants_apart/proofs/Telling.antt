@@ -86,8 +86,19 @@ module _ (vid : ℕ) where
 
   -- ---- of rows, and then others
 
-  pub departures-append : (rs ts : List Row) → departures_in vid (rs ++ ts) ≡ departures_in vid rs ++ departures_in vid ts
+  departures-append : (rs ts : List Row) → departures_in vid (rs ++ ts) ≡ departures_in vid rs ++ departures_in vid ts
   departures-append rs ts = ap (filter leaves) (flat_map-append departing rs ts) ∙ filter-append leaves (departures rs) (departures ts)
 
-  pub lines-append : (rs ts : List Row) → lines_in vid (rs ++ ts) ≡ lines_in vid rs ++ lines_in vid ts
+  lines-append : (rs ts : List Row) → lines_in vid (rs ++ ts) ≡ lines_in vid rs ++ lines_in vid ts
   lines-append rs ts = ap (filter tells) (map-append line_of rs ts) ∙ filter-append tells (lines rs) (lines ts)
+
+-- what is read of rows, in order: of events that aren't the segment's own it is nothing
+pub record Reads (A : Type 0) (vid : ℕ) (f : List Row → List A) : Type 0 where
+  pub own : (s : State) (es : List Event) → f (rows s es) ≡ f (own_rows vid s es)
+  pub append : (rs ts : List Row) → f (rs ++ ts) ≡ f rs ++ f ts
+
+pub reads-departures : (vid : ℕ) → Reads Departure vid (departures_in vid)
+reads-departures vid = record { own = departures-own vid; append = departures-append vid }
+
+pub reads-lines : (vid : ℕ) → Reads Line vid (lines_in vid)
+reads-lines vid = record { own = lines-own vid; append = lines-append vid }

@@ -1,5 +1,5 @@
 -- What a run tells of its tables at a moment.
-use Rattle.std.proofs.Common.{◌≡◌, ◌∙◌, refl, sym, ap, ℕ, zero, suc, ◌+◌, ◌-◌, ◌<◌, ◌≤◌, max, arith, Bool, true, false, cond, List, [], ◌∷◌, ◌++◌, map, Option, Some, None}
+use Rattle.std.proofs.Common.{◌≡◌, ◌∙◌, refl, sym, ap, ℕ, zero, suc, ◌+◌, ◌-◌, ◌≤◌, max, arith, Bool, true, false, cond, List, [], ◌∷◌, ◌++◌, map, Option, Some, None}
 use Rattle.std.specs.Prelude.{nat_lt}
 use Rattle.std.specs.List.{flat_map, range_with_len}
 use Rattle.std.proofs.lemmas.Bool.{ltb-false}
@@ -11,14 +11,13 @@ use Rattle.timeline.specs.declared.event.Event.{Event as Happens}
 use Rattle.overlay_settings.specs.declared.change.Change.{Change}
 use Rattle.overlay_settings.specs.declared.change.TimedChange.{TimedChange}
 use Rattle.endpoint_state.specs.Settings.{Settings}
-use Rattle.endpoint_core.specs.Event as event
 use Rattle.endpoint_core.specs.Step.{State, opened, after, passed, state_after}
 use Rattle.capture_run.specs.Outputs.{event_of}
 use Rattle.capture_run.proofs.Growing.{rising_events}
 use Rattle.table_lines.specs.Lines.{lines_among, segment_lines, shown_at, tables_text}
 use Rattle.table_lines.proofs.LineLemmas.{segments_all}
-use Rattle.stream_run.specs.Sights.{Sight, sights, state_among}
-use Rattle.run_reports.specs.Report.{Telling, told_by, ended_by}
+use Rattle.stream_run.specs.Sights.{sights, state_among}
+use Rattle.run_reports.specs.Report.{Telling, asked, ended_by}
 use Rattle.tenants_apart.specs.Own.{part_of, own_events, room_replies}
 use Rattle.tenants_apart.specs.Reports.{until, told_behind, tables_at, HasLines}
 use Rattle.tenants_apart.proofs.Tables.{lines-shown}
@@ -27,19 +26,7 @@ use Rattle.tenants_apart.proofs.Tables.{lines-shown}
 
 -- the tables are still to be told at this moment, or not any more
 abbrev telling : List TimedChange → Option ℕ → List ℕ → Telling
-telling changes due text = record {
-  names = [];
-  changes = changes;
-  segments = All;
-  due = due;
-  tables = false;
-  text = text;
-  last = [];
-  found = [];
-  reasons = [];
-  addresses = [];
-  is_lost = false;
-}
+telling changes due text = record (asked [] changes All due false) { text = text }
 
 -- behind an event, where the moment is before it, or not
 abbrev stepped : List TimedChange → ℕ → State → List ℕ → Bool → Telling

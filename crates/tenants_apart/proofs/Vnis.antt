@@ -27,7 +27,7 @@ use Rattle.overlay_settings.specs.Rules.{MeetsRules}
 use Rattle.overlay_settings.specs.Settings.{Settings as Told, tunnel_rule}
 use Rattle.overlay_settings.proofs.Openers.{are_apart}
 use Rattle.overlay_settings.specs.declared.change.Change.{Change}
-use Rattle.overlay_settings.specs.declared.change.Change.TheVariants.{AddFlood, RemoveFlood, Fix, Unfix, SetAgeing, SetLearning, SetMember, PortUp, PortDown, Flush, AddSegment, RemoveSegment, SetLimit}
+use Rattle.overlay_settings.specs.declared.change.Change.TheVariants.{AddFlood, RemoveFlood, AddSegment, RemoveSegment}
 use Rattle.overlay_settings.specs.declared.change.NewSegment.{NewSegment}
 use Rattle.endpoint_state.specs.declared.fault.ChangeFault.{ChangeFault}
 use Rattle.endpoint_state.specs.declared.fault.ChangeFault.TheVariants.{OutOfRange, SegmentThere, SegmentsFull, PoolFull}
@@ -41,10 +41,11 @@ use Rattle.endpoint_core.specs.Arrival.{came_by}
 use Rattle.endpoint_core.specs.Event.{FrameAt, Packet, Asks, Event, Input}
 use Rattle.endpoint_core.specs.Run.{settings_after_input, settings_after}
 use Rattle.segment_isolation.specs.Alone.{is_segment}
+use Rattle.segment_isolation.proofs.Arriving.{found, found_for}
 use Rattle.tenants_apart.specs.Own.{segment_met}
 use Rattle.tenants_apart.specs.Vnis.{AreVnisApart}
 use Rattle.tenants_apart.proofs.Changing.{flooded, flooding-at}
-use Rattle.tenants_apart.proofs.Coming.{found, found_for, found-is, met-found, came_by-found}
+use Rattle.tenants_apart.proofs.Coming.{met-found, came_by-found}
 
 -- ---- segments by VID
 
@@ -145,17 +146,9 @@ apart-flooded S v flood (Some s) apart = apart-flooding S.overlay.segments v (fl
 apart-accepted : (S : Settings) (c : Change) → is_none (refused S c) ≡ true → AreVnisApart S.overlay → AreVnisApart (accepted S c).overlay
 apart-accepted S (AddFlood v addr tunnel) taken apart = apart-flooded S v _ (segment_at S v) apart
 apart-accepted S (RemoveFlood v addr tunnel) taken apart = apart-flooded S v _ (segment_at S v) apart
-apart-accepted S (Fix v mac target) taken apart = apart
-apart-accepted S (Unfix v mac) taken apart = apart
-apart-accepted S (SetAgeing v seconds) taken apart = apart
-apart-accepted S (SetLearning v on) taken apart = apart
-apart-accepted S (SetMember v port egress) taken apart = apart
-apart-accepted S (PortUp port) taken apart = apart
-apart-accepted S (PortDown port) taken apart = apart
-apart-accepted S (Flush v) taken apart = apart
 apart-accepted S (AddSegment new) taken apart = apart-more S.overlay (new_tunnels new) apart (free-if S new (none-is (refused S (AddSegment new)) taken))
 apart-accepted S (RemoveSegment v) taken apart = apart-remove S.overlay.segments v apart
-apart-accepted S (SetLimit v limit) taken apart = apart
+apart-accepted S c taken apart = apart
 
 apart-changed : (S : Settings) (c : Change) → AreVnisApart S.overlay → AreVnisApart (changed S c).overlay
 apart-changed S c apart = by (is_none (refused S c)) refl
@@ -206,10 +199,11 @@ found-too vid S T here apart d (Some kind) own = by (segment_by S kind (vni_of k
         eq-eqb vid f.0 (sym (apart vid f.0 kind vni (has e.1 vid there it.1) (has f.1 f.0 that.0 that.1)))
 
 found-for : (vid : ℕ) (S T : Overlay) → S.underlay ≡ T.underlay → overlay_segment S vid ≡ overlay_segment T vid → AreVnisApart T → (b : List ℕ) → is_segment vid (option_map (λ e. e.0) (found S b)) ≡ true → is_segment vid (option_map (λ e. e.0) (found T b)) ≡ true
+unfolding found
 found-for vid S T underlay here apart b own =
-    let d : List ℕ = data_of (packet_in b).payload in
-    ap (λ (o : Option (ℕ × Segment)). is_segment vid (option_map (λ e. e.0) o)) (found-is T b ∙ ap (λ (U : Underlay). found_for T d (kind_to U (packet_in b))) (sym underlay))
-    ∙ found-too vid S T here apart d (kind_to S.underlay (packet_in b)) (sym (ap (λ (o : Option (ℕ × Segment)). is_segment vid (option_map (λ e. e.0) o)) (found-is S b)) ∙ own)
+    let d = data_of (packet_in b).payload in
+    ap (λ (U : Underlay). is_segment vid (option_map (λ e. e.0) (found_for T d (kind_to U (packet_in b))))) (sym underlay)
+    ∙ found-too vid S T here apart d (kind_to S.underlay (packet_in b)) own
 
 packet-too : (vid : ℕ) (S T : Overlay) → S.underlay ≡ T.underlay → overlay_segment S vid ≡ overlay_segment T vid → AreVnisApart T → (original : ℕ) (b : List ℕ) → is_segment vid (segment_met (came_by S original b)) ≡ true → is_segment vid (segment_met (came_by T original b)) ≡ true
 packet-too vid S T underlay here apart original b own =

@@ -4,7 +4,7 @@
 --     asks_room, room_replies      what those changes of its own are answered that others may have left no room for
 --     wants_room      such a change is refused because of others
 --     own_rows      its own events, each with its answer
-use Rattle.std.specs.Prelude.{◌≡◌, ◌⊎◌, ℕ, Bool, true, false, ◌&&◌, if◌then◌else◌, List, [], ◌∷◌, ◌++◌, Option, Some, Result, Ok, Err}
+use Rattle.std.specs.Prelude.{◌≡◌, ◌⊎◌, ℕ, Bool, true, false, ◌&&◌, if◌then◌else◌, List, [], ◌∷◌, ◌++◌, Option, Result}
 use Rattle.std.specs.Option.{option_map_or}
 use Rattle.frame_view.specs.declared.reason.Refused.{Refused}
 use Rattle.vlan_ports.specs.Ports.{Members, members_at}
@@ -16,8 +16,9 @@ use Rattle.overlay_settings.specs.declared.change.Change.{Change}
 use Rattle.endpoint_state.specs.declared.fault.ChangeFault.{ChangeFault}
 use Rattle.endpoint_state.specs.declared.fault.ChangeFault.TheVariants.{SegmentThere, SegmentsFull, PoolFull}
 use Rattle.endpoint_state.specs.Settings.{Settings, BridgeSettings}
-use Rattle.endpoint_state.specs.Effect.{Effect, ToFlood, ToBridge, ToLimit, ToMembers, ToPort, Comes, Goes, ToNothing, effect}
+use Rattle.endpoint_state.specs.Effect.{Effect, ToLimit, Comes, effect}
 use Rattle.endpoint_state.specs.Change.{is_about, refused}
+use Rattle.endpoint_core.specs.Among.{segment_of}
 use Rattle.endpoint_core.specs.Came.{Came}
 use Rattle.endpoint_core.specs.Arrival.{came_at, came_by}
 use Rattle.endpoint_core.specs.Event.{Input, FrameAt, Packet, Asks, Event}
@@ -55,8 +56,7 @@ part_of vid S = record {
 
 -- the segment that a frame or packet comes to, or is refused in
 abbrev pub segment_met : Result Came Refused → Option ℕ
-segment_met (Ok came) = Some came.vid
-segment_met (Err refused) = refused.segment
+segment_met r = segment_of r
 
 -- while these settings are in force, an event is the segment's own: a frame or packet that comes to it or is refused in
 -- it, a change that names it, or one of a port
@@ -76,14 +76,9 @@ own_events vid S (e ∷ es) =
 
 -- a segment comes, with VNIs and a limit, or gets another limit
 abbrev pub takes_room : Effect → Bool
-takes_room (ToFlood vid change) = false
-takes_room (ToBridge vid change) = false
 takes_room (ToLimit vid limit) = true
-takes_room (ToMembers vid port egress) = false
-takes_room (ToPort port up) = false
 takes_room (Comes new) = true
-takes_room (Goes vid) = false
-takes_room ToNothing = false
+takes_room _ = false
 
 -- the segment itself comes or gets another limit
 abbrev pub asks_room : ℕ → Change → Bool

@@ -2,8 +2,8 @@
 //!
 //! Use first: [`settings`] has the settings of an endpoint, of its peer and of a learning bridge alone, and [`capture_texts`]
 //! captures octet for octet. [`Captures`] puts captures together from lines, with [`octets_of`] for the words in them.
-//! [`Pieces`] gives a text a few octets at a time, [`GoingOn`] goes on behind an input, and [`Room`] takes a few octets at a
-//! time. [`memory`] asks for memory.
+//! [`broadcast`] is a frame, and [`three_cells`] reads a row of a table. [`Pieces`] gives a text a few octets at a time,
+//! [`GoingOn`] goes on behind an input, and [`Room`] takes a few octets at a time. [`memory`] asks for memory.
 //!
 //! It has no specs of its own, and of it nothing is promised.
 //!
@@ -17,10 +17,12 @@ pub mod memory;
 mod octets;
 mod pieces;
 mod room;
+mod rows;
 pub mod settings;
 
 pub use captures::Captures;
 pub use endless::{GoingOn, going_on};
-pub use octets::octets_of;
+pub use octets::{broadcast, meaning_of, octets_of};
 pub use pieces::{Pieces, in_pieces};
 pub use room::Room;
+pub use rows::three_cells;

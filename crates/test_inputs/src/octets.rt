@@ -1,4 +1,4 @@
-//! Octets as words.
+//! Octets as words, and a frame.
 use std::alloc::Global;
 use std::test::Fail;
 
@@ -38,11 +38,25 @@ const WORDS: [(&str, &str); 14] = [
     ),
 ];
 
-/// The hexadecimal digits that a word stands for; itself where it stands for none.
-fn digits_of(word: &str) -> &str {
-    for (name, digits) in &WORDS {
+/// The addresses and the type of a broadcast.
+const BROADCAST: [u8; 14] = [
+    0xFF, 0xFF, 0xFF, 0xFF, 0xFF, 0xFF, 0x02, 0, 0, 0, 0, 0x01, 0x08, 0x06,
+];
+
+/// The octets of a frame from 02-00-00-00-00-01 to everybody, of type 0806, all zero behind that.
+pub fn broadcast<const N: usize>() -> [u8; N] {
+    let mut octets = [0; N];
+    for (octet, told) in octets.iter_mut().zip(&BROADCAST) {
+        *octet = *told;
+    }
+    octets
+}
+
+/// What a word stands for in a table of names; itself where it stands for nothing there.
+pub fn meaning_of<'w>(table: &[(&'w str, &'w str)], word: &'w str) -> &'w str {
+    for (name, meaning) in table {
         if *name == word {
-            return digits;
+            return *meaning;
         }
     }
     word
@@ -57,7 +71,7 @@ pub fn octets_of(alloc: Global, words: &str) -> Result<Vec<u8>, Fail> {
                 let count = count.parse::<u16>()?;
                 octets.resize(octets.len().saturating_add(usize::from(count)), 0)?;
             }
-            None => octets.append(&mut hex::decode(alloc, digits_of(word))?)?,
+            None => octets.append(&mut hex::decode(alloc, meaning_of(&WORDS, word))?)?,
         }
     }
     Ok(octets)

@@ -1,12 +1,12 @@
 //! Records of captures that hold both directions, in order of moment.
 use both_ways::BothWays;
-use frame_view::Mac;
-use geneve_head::Known;
+use overlay_config::settings_of;
 use std::alloc::Global;
 use std::test::Fail;
-use test_inputs::octets_of;
+use test_inputs::settings::ENDPOINT;
+use test_inputs::{octets_of, three_cells};
 use timeline::{Captured, Event, Happening, Tap};
-use underlay::{Hops, Limits, Underlay};
+use underlay::Underlay;
 
 /// How many nanoseconds behind its frame an echo comes at most.
 const WITHIN: u64 = 10;
@@ -51,32 +51,10 @@ like any other | p2 | 173 | 010203 | out
 "
 }
 
-/// The settings of an endpoint at 192.0.2.1 with the registered ports.
-fn underlay(alloc: Global) -> Underlay {
-    Underlay {
-        mac: Mac([0x02, 0, 0, 0, 0xAA, 1]),
-        next_hop: Mac([0x02, 0, 0, 0, 0xAA, 0xFE]),
-        ip4: Some([192, 0, 2, 1]),
-        ip6: None,
-        mtu: 1550,
-        ttl: 64,
-        vxlan_port: 4789,
-        geneve_port: 6081,
-        sum4: false,
-        sum6: true,
-        zero6: false,
-        partial: false,
-        known: Known::new(),
-        hops: Hops::new(alloc),
-        limits: Limits {
-            ports: 16,
-            segments: 256,
-            flood: 16,
-            hops: 64,
-            entries: 8192,
-            addresses: 65536,
-        },
-    }
+/// The underlay of an endpoint at 192.0.2.1 with the registered ports.
+fn underlay(alloc: Global) -> Result<Underlay, Fail> {
+    let settings = settings_of(alloc, ENDPOINT.as_bytes())?;
+    Ok(settings.into_parts().underlay)
 }
 
 /// The place of this name.
@@ -87,23 +65,27 @@ fn tap_of(name: &str) -> Result<Tap, Fail> {
     }
 }
 
-/// Whether a record at a place, of these words, is taken as the row says: `in` or `out`.
-fn is_taken_so(alloc: Global, both: &mut BothWays, tap: Tap, rest: &str) -> Result<bool, Fail> {
-    let (moment, rest) = rest.split_once(" | ").ok_or("a moment")?;
-    let (words, wanted) = rest.split_once(" | ").ok_or("octets")?;
+/// Whether a record at a place, at a moment and of these words, is input.
+fn is_taken(
+    alloc: Global,
+    both: &mut BothWays,
+    place: &str,
+    moment: &str,
+    words: &str,
+) -> Result<bool, Fail> {
     let octets = octets_of(alloc, words)?;
     let event = Event {
         moment: moment.parse::<u64>()?,
         number: 1,
         happening: Happening::Record(
-            tap,
+            tap_of(place)?,
             Captured {
                 original: 60,
                 octets: octets.as_slice(),
             },
         ),
     };
-    Ok(both.is_input(&event) == (wanted == "in"))
+    Ok(both.is_input(&event))
 }
 
 /// The first row that is taken otherwise than it says.
@@ -113,9 +95,9 @@ fn wrong_row<'a>(
     rows: &'a str,
 ) -> Result<Option<&'a str>, Fail> {
     for row in rows.lines() {
-        let (name, rest) = row.split_once(" | ").ok_or("a name")?;
-        let (place, rest) = rest.split_once(" | ").ok_or("a place")?;
-        if !is_taken_so(alloc, both, tap_of(place)?, rest)? {
+        let (name, place, rest) = three_cells(row)?;
+        let (moment, words, wanted) = three_cells(rest)?;
+        if is_taken(alloc, both, place, moment, words)? != (wanted == "in") {
             return Ok(Some(name));
         }
     }
@@ -133,7 +115,7 @@ fn are_counted(both: &BothWays) -> bool {
 
 #[test]
 fn what_the_switch_sent_is_no_input(rt: HostRuntime) -> Result<(), Fail> {
-    let underlay = underlay(rt.alloc());
+    let underlay = underlay(rt.alloc())?;
     let mut both = BothWays::new(rt.alloc(), WITHIN, &underlay)?;
     let wrong = wrong_row(rt.alloc(), &mut both, rows())?.unwrap_or("none");
     assert_eq!(rt; wrong, "none");
@@ -143,7 +125,7 @@ fn what_the_switch_sent_is_no_input(rt: HostRuntime) -> Result<(), Fail> {
 
 #[test]
 fn a_change_is_always_input(rt: HostRuntime) -> Result<(), Fail> {
-    let underlay = underlay(rt.alloc());
+    let underlay = underlay(rt.alloc())?;
     let mut both = BothWays::new(rt.alloc(), WITHIN, &underlay)?;
     let event = Event {
         moment: 5,

@@ -7,8 +7,8 @@ use overlay_config::settings_of;
 use std::alloc::Global;
 use std::test::Fail;
 use stream_run::Watch;
-use test_inputs::Room;
 use test_inputs::settings::ENDPOINT;
+use test_inputs::{Room, broadcast};
 use timeline::{Captured, Cut, Event, Happening, Source, Tap};
 
 const SECOND: u64 = 1_000_000_000;
@@ -114,17 +114,6 @@ fn cut_rests_are_told_with_their_whole_records(rt: HostRuntime) {
     assert!(rt; line.text() == expected.as_bytes());
 }
 
-/// A frame from 02-00-00-00-00-01 to everybody.
-fn broadcast() -> [u8; 1515] {
-    let mut octets = [0; 1515];
-    octets[..6].fill(0xFF);
-    octets[6] = 2;
-    octets[11] = 1;
-    octets[12] = 8;
-    octets[13] = 6;
-    octets
-}
-
 /// Shows the event of this number, so many octets of a broadcast at a port, and what they come to.
 fn show(
     objects: &mut Objects<Room>,
@@ -132,7 +121,7 @@ fn show(
     (number, port): (u64, u8),
     size: u16,
 ) {
-    let frame = broadcast();
+    let frame = broadcast::<1515>();
     let octets = &frame[..usize::from(size).min(1515)];
     let original = u32::from(size);
     if endpoint.now() > SECOND || port == 0 || port > endpoint.ports() {

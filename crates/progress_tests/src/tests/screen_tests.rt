@@ -12,25 +12,11 @@ use std::io;
 use std::test::Fail;
 use std::time::{Clock, Duration};
 use stream_run::Watch;
+use test_inputs::settings::ENDPOINT;
 use timeline::{Captured, Event, Happening, Tap};
 
 /// How many events come from one look at the clock to the next.
 const EVENTS: u64 = 4_096;
-
-/// A bridge of one port.
-const SETTINGS: &str = r#"version = 1
-[underlay]
-mac = "02:00:00:00:aa:01"
-next_hop = "02:00:00:00:aa:fe"
-ip4 = "192.0.2.1"
-[[port]]
-pvid = 10
-[[segment]]
-vid = 10
-vni = 5000
-tunnel = "vxlan"
-untagged = [1]
-"#;
 
 /// A standard error in memory, and a clock that is 300 ms later at each look, up to a look at which it fails.
 #[derive(Drop)]
@@ -161,17 +147,28 @@ fn no_calls() -> Calls {
     }
 }
 
-#[test]
-fn lines_stand_one_over_the_last_and_go(rt: HostRuntime) -> Result<(), Fail> {
-    let desk = Desk::new(rt.alloc(), true, u64::MAX);
-    let mut progress = Progress::start(&desk, Some(4_096_000)).ok_or("no progress")?;
-    for event in 1..=5 * EVENTS {
-        progress.count(&record(event, &[0; 84]));
+/// What is written of so many records, one a second, of so many octets where that is known.
+fn written_of(
+    alloc: Global,
+    desk: &Desk,
+    total: Option<u64>,
+    records: u64,
+) -> Result<String, Fail> {
+    let mut progress = Progress::start(desk, total).ok_or("no progress")?;
+    for second in 1..=records {
+        progress.count(&record(second, &[0; 84]));
     }
     progress.finish();
     progress.finish();
+    desk.written(alloc)
+}
+
+#[test]
+fn lines_stand_one_over_the_last_and_go(rt: HostRuntime) -> Result<(), Fail> {
+    let desk = Desk::new(rt.alloc(), true, u64::MAX);
+    let written = written_of(rt.alloc(), &desk, Some(4_096_000), 5 * EVENTS)?;
     assert_eq!(rt;
-        desk.written(rt.alloc())?.as_str(),
+        written.as_str(),
         "\r 40 %, 16384 events, 13653 a second, at 16384.000000000 s\x1b[K\
         \r 50 %, 20480 events, 13653 a second, at 20480.000000000 s\x1b[K\
         \r\x1b[K"
@@ -183,12 +180,8 @@ fn lines_stand_one_over_the_last_and_go(rt: HostRuntime) -> Result<(), Fail> {
 #[test]
 fn nothing_is_shown_within_a_second(rt: HostRuntime) -> Result<(), Fail> {
     let desk = Desk::new(rt.alloc(), true, u64::MAX);
-    let mut progress = Progress::start(&desk, None).ok_or("no progress")?;
-    for event in 1..4 * EVENTS {
-        progress.count(&record(event, &[0; 84]));
-    }
-    progress.finish();
-    assert_eq!(rt; desk.written(rt.alloc())?.as_str(), "");
+    let written = written_of(rt.alloc(), &desk, None, 4 * EVENTS - 1)?;
+    assert_eq!(rt; written.as_str(), "");
     Ok(())
 }
 
@@ -197,18 +190,14 @@ fn nothing_is_shown_where_the_clock_fails_or_no_terminal_is(rt: HostRuntime) -> 
     assert!(rt; Progress::start(&Desk::new(rt.alloc(), false, u64::MAX), None).is_none());
     assert!(rt; Progress::start(&Desk::new(rt.alloc(), true, 0), None).is_none());
     let desk = Desk::new(rt.alloc(), true, 1);
-    let mut progress = Progress::start(&desk, None).ok_or("no progress")?;
-    for event in 1..=5 * EVENTS {
-        progress.count(&record(event, &[0; 84]));
-    }
-    progress.finish();
-    assert_eq!(rt; desk.written(rt.alloc())?.as_str(), "");
+    let written = written_of(rt.alloc(), &desk, None, 5 * EVENTS)?;
+    assert_eq!(rt; written.as_str(), "");
     Ok(())
 }
 
 #[test]
 fn whoever_looks_on_is_told_all(rt: HostRuntime) -> Result<(), Fail> {
-    let settings = settings_of(rt.alloc(), SETTINGS.as_bytes())?;
+    let settings = settings_of(rt.alloc(), ENDPOINT.as_bytes())?;
     let endpoint = Endpoint::open(rt.alloc(), settings)?;
     let desk = Desk::new(rt.alloc(), true, u64::MAX);
     let mut beside = Beside {

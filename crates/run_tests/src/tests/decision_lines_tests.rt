@@ -3,12 +3,14 @@ ghost use Rattle.std.specs.Prelude.{◌≤◌, ◌+◌, length};
 
 use decision_lines::{Counter, Desk, Line};
 use endpoint_core::{ChangeFault, Endpoint, Outlets};
+use endpoint_state::CHANGE_FAULTS;
 use filter_db::Place;
 use frame_view::{Reason, Refused, Vid};
 use ip_udp_view::{Addr, Tunnel};
 use overlay_config::settings_of;
 use std::alloc::Global;
 use std::test::Fail;
+use test_inputs::broadcast;
 use test_inputs::settings::ENDPOINT;
 use timeline::{Captured, Cut, Event, Happening, Tap};
 
@@ -21,17 +23,6 @@ const LONGEST: (usize, u64) = (28_100, 0xB939_F3E3_FCC5_E64C);
 fn endpoint(alloc: Global) -> Result<Endpoint, Fail> {
     let settings = settings_of(alloc, ENDPOINT.as_bytes())?;
     Ok(Endpoint::open(alloc, settings)?)
-}
-
-/// A frame of 60 octets from 02-00-00-00-00-01 to everybody.
-fn broadcast() -> [u8; 60] {
-    let mut octets = [0; 60];
-    octets[..6].fill(0xFF);
-    octets[6] = 2;
-    octets[11] = 1;
-    octets[12] = 8;
-    octets[13] = 6;
-    octets
 }
 
 /// The number of an event of a run.
@@ -82,7 +73,7 @@ fn tells_drop(
     refused: Refused,
     expected: &str,
 ) -> bool {
-    let octets = broadcast();
+    let octets = broadcast::<60>();
     let count = u64::from(count);
     let event = record(count * SECOND, own, tap, &octets);
     line.write_drop(&counted(count), &event, refused);
@@ -170,7 +161,7 @@ fn tells_course(
     if endpoint.now() > SECOND || port == 0 || port > endpoint.ports() {
         return false;
     }
-    let octets = broadcast();
+    let octets = broadcast::<60>();
     desk.number = counted(count);
     let event = record(SECOND, 1, Tap::Port(port), &octets);
     let course = endpoint.take_frame(SECOND, port, 60, &octets, &mut desk.places);
@@ -229,7 +220,7 @@ fn put_remotes(line: &mut Line, count: Result<usize, Reason>)
 
 /// Writes the line of an event where so many octets left at all places.
 fn write_longest(line: &mut Line, count: Result<usize, Reason>) {
-    let octets = broadcast();
+    let octets = broadcast::<60>();
     let event = record(u64::MAX, u64::MAX, Tap::Port(255), &octets);
     line.begin(&counted(1_000), &event, Vid::new(4094));
     put_ports(line, count);
@@ -239,7 +230,7 @@ fn write_longest(line: &mut Line, count: Result<usize, Reason>) {
 
 /// Writes that line of what leaves at each place, and so last of what leaves at the last; whether a frame leaves.
 fn writes_longest(line: &mut Line, endpoint: &mut Endpoint) -> bool {
-    let octets = broadcast();
+    let octets = broadcast::<60>();
     let mut places = Outlets::new();
     if endpoint.now() > SECOND || endpoint.ports() == 0 {
         return false;
@@ -278,4 +269,12 @@ fn a_line_has_room_for_all_outlets(rt: HostRuntime) -> Result<(), Fail> {
     let mut endpoint = endpoint(rt.alloc())?;
     assert!(rt; tells_longest(&mut endpoint));
     Ok(())
+}
+
+#[test]
+fn each_cause_is_listed_at_its_number(rt: HostRuntime) {
+    for place in 0..14u8 {
+        let cause = CHANGE_FAULTS[usize::from(place)];
+        assert!(rt; cause.number() == place + 1);
+    }
 }

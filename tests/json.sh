@@ -46,8 +46,9 @@ same decisions "$folder/out/decisions.txt" "$folder/out/decisions.jsonl"
 for file in "$folder/plain"/*; do
     cmp -s "$file" "$folder/out/${file##*/}" || complain "${file##*/} is another with --json"
 done
+sent='{"octets":60,"place":"p2"},{"octets":64,"place":"p3"},{"octets":110,"place":"192.0.2.2"}'
 [ "$(head -n 1 "$folder/out/decisions.jsonl")" = \
-    '{"event":1,"moment":"1000000000","number":1,"outcomes":[{"octets":60,"place":"p2"},{"octets":64,"place":"p3"},{"octets":110,"place":"192.0.2.2"}],"result":"sent","segment":10,"source":"p1"}' ] ||
+    '{"event":1,"moment":"1000000000","number":1,"outcomes":['"$sent"'],"result":"sent","segment":10,"source":"p1"}' ] ||
     complain "the first object is $(head -n 1 "$folder/out/decisions.jsonl")"
 
 # Each reason and each kind of outcome and of change, two tunnels, and cut captures.
@@ -108,7 +109,8 @@ mkdir "$folder/whole"
 cp examples/port1.pcap "$folder/out/decisions.jsonl"
 ./tep run "${a[@]}" -o "$folder/out" --json "$folder/out/decisions.jsonl" "${captures[@]:1}" 2>"$folder/said"
 [ "$?" -eq 3 ] || complain "a capture that is the objects' file is written over"
-head -n 1 "$folder/said" | grep -qx "write decisions.jsonl" || complain "of a capture that is the objects' file it says '$(cat "$folder/said")'"
+head -n 1 "$folder/said" | grep -qx "write decisions.jsonl" ||
+    complain "of a capture that is the objects' file it says '$(cat "$folder/said")'"
 cmp -s examples/port1.pcap "$folder/out/decisions.jsonl" || complain "the capture that is the objects' file was changed"
 
 # A disk that is full for the objects alone: all else is written whole, and the status is 3.

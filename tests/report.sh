@@ -15,7 +15,8 @@ complain() {
 # page_of FOLDER: its page is as it should be
 page_of() {
     ./tep report -o "$folder/page.html" "$1" || complain "the report of $1 ends with status $?"
-    python3 -B tests/report_page.py "$folder/page.html" "$1/summary.txt" "$1/decisions.txt" || complain "the page of $1 isn't what the run gave"
+    python3 -B tests/report_page.py "$folder/page.html" "$1/summary.txt" "$1/decisions.txt" ||
+        complain "the page of $1 isn't what the run gave"
 }
 
 # refused STATUS FAULT WORDS..: the report with these words ends so, and says this line first

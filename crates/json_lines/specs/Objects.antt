@@ -37,7 +37,8 @@ told_word (Some kind) w = word_data kind w
 abbrev pub outcome_data : List ℕ → Data
 outcome_data w =
     if mark_in w == 61
-    then object (member (codes "octets") (number_data (number_of (behind_mark w))) (member (codes "place") (string (place_in w)) no_members))
+    then object
+    (member (codes "octets") (number_data (number_of (behind_mark w))) (member (codes "place") (string (place_in w)) no_members))
     else object (member (codes "fault") (string (behind_mark w)) (member (codes "place") (string (place_in w)) no_members))
 
 -- each of them

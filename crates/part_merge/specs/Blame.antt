@@ -171,7 +171,8 @@ module _ {T : Type 0} where
 
   -- the outputs of captures alone, whatever the lines' is
   abbrev pub CapturesWrite : List Drain → Drain → List Drain → Drain → Result T MergeFault → Type 0
-  CapturesWrite old old_underlay new new_underlay result = (failures : ℕ) → WritesWith old old_underlay failures new new_underlay failures result
+  CapturesWrite old old_underlay new new_underlay result =
+      (failures : ℕ) → WritesWith old old_underlay failures new new_underlay failures result
 
   -- that of the lines alone, whatever those of captures are
   abbrev pub LinesWrite : ℕ → ℕ → Result T MergeFault → Type 0

@@ -5,8 +5,8 @@ use Rattle.header_octets.specs.Octets.{is_same}
 use Rattle.report_page.specs.Told.{is_talk, word_at}
 use Rattle.report_page.specs.declared.senders.Sender.{Sender}
 
--- an octet that stands for a text, behind those of others: texts with other octets aren't the same. Senders are looked up by it
--- and then compared whole, so any function from a text to an octet serves: what is told of senders doesn't depend on which
+-- an octet that stands for a text, behind those of others. Two texts whose octets differ aren't the same text, so senders are looked
+-- up by it, and those found are compared whole: what is told of senders doesn't depend on which function from a text to an octet it is
 abbrev pub mark_behind : ℕ → List ℕ → ℕ
 mark_behind mark [] = mark
 mark_behind mark (c ∷ cs) = mark_behind ((mark * 31 + c) % 256) cs

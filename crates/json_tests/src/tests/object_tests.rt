@@ -7,11 +7,17 @@ use std::test::Fail;
 static ROWS: [(&str, &str); 21] = [
     (
         "12 1700000000000000000 p1 3 10 p2=64 p3=64 192.0.2.2=114",
-        r#"{"event":12,"moment":"1700000000000000000","record":3,"segment":10,"sent":[{"octets":64,"place":"p2"},{"octets":64,"place":"p3"},{"octets":114,"place":"192.0.2.2"}],"source":"p1"}"#,
+        concat!(
+            r#"{"event":12,"moment":"1700000000000000000","record":3,"segment":10,"sent":["#,
+            r#"{"octets":64,"place":"p2"},{"octets":64,"place":"p3"},{"octets":114,"place":"192.0.2.2"}],"source":"p1"}"#
+        ),
     ),
     (
         "14 5 p1 4 10 p2=64 vxlan:192.0.2.2!TooBig",
-        r#"{"event":14,"moment":"5","record":4,"segment":10,"sent":[{"octets":64,"place":"p2"},{"fault":"TooBig","place":"vxlan:192.0.2.2"}],"source":"p1"}"#,
+        concat!(
+            r#"{"event":14,"moment":"5","record":4,"segment":10,"sent":["#,
+            r#"{"octets":64,"place":"p2"},{"fault":"TooBig","place":"vxlan:192.0.2.2"}],"source":"p1"}"#
+        ),
     ),
     (
         "15 5 p1 4 10 p2!A=1",

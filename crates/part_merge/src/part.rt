@@ -22,7 +22,7 @@ use crate::capture::Capture;
 use crate::coming::{Coming, Told, coming_of, is_cut, is_over, stopped_by};
 use crate::fault::{MergeFault, PartFault, Target};
 use crate::hand_on::{hand_on_captures_before, hand_on_lines_before};
-use crate::records::{copy_all, end_captures};
+use crate::records::{Captures, copy_all, end_captures};
 use line_stream::Lines;
 use part_lines::{LineFacts, Places, read_line};
 use pcap_stream::{Input, Output, Sink};
@@ -35,9 +35,7 @@ const MOST_CUTS: usize = 256;
 #[derive(Drop)]
 pub struct Part<R: Input> {
     lines: Lines<R>,
-    /// Those of the ports, that of port 1 first.
-    ports: Vec<Capture<R>>,
-    underlay: Capture<R>,
+    captures: Captures<R>,
     coming: Coming,
     /// Where the result of the next line begins; none where it isn't an event's, and behind a fault.
     begins: Option<usize>,
@@ -51,7 +49,12 @@ impl<R: Input> Model for Part<R> {
 
     ghost Value = { OpenPart };
 
-    ghost view = { λ p. record { reader = p.lines; ports = p.ports.items; underlay = p.underlay; coming = p.coming } };
+    ghost view = { λ p. record {
+      reader = p.lines;
+      ports = p.captures.ports.items;
+      underlay = p.captures.underlay;
+      coming = p.coming;
+    } };
 
     ghost invariant = { λ p. IfSome p.begins (IsPlaced p.lines.line) × IsOf p.coming p.lines.line };
 }
@@ -86,8 +89,7 @@ impl<R: Input> Part<R> {
         let coming = Coming::Nothing;
         let mut opened = Part {
             lines,
-            ports,
-            underlay,
+            captures: Captures { ports, underlay },
             coming,
             begins: None,
         };
@@ -101,7 +103,7 @@ impl<R: Input> Part<R> {
     pub(crate) fn count(&self) -> usize
         ensures { result ≡ length self.now.ports }
     {
-        self.ports.len()
+        self.captures.ports.len()
     }
 
     /// What the next line is of.
@@ -193,8 +195,7 @@ impl<R: Input> Part<R> {
         copy_all(
             part,
             places,
-            self.ports.as_mut_slice(),
-            &mut self.underlay,
+            &mut self.captures,
             port_sinks,
             underlay_sink,
             decisions,
@@ -332,6 +333,10 @@ impl<R: Input> Part<R> {
         ensures reads { PartReads part self.old self.new result }
         ensures no_write { BlamesNoWrite result }
     {
-        end_captures(part, self.ports.as_mut_slice(), &mut self.underlay)
+        end_captures(
+            part,
+            self.captures.ports.as_mut_slice(),
+            &mut self.captures.underlay,
+        )
     }
 }

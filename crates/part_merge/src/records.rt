@@ -18,6 +18,14 @@ use part_lines::Places;
 use pcap_stream::{Input, Output, Sink};
 use timeline::Tap;
 
+/// The captures of a part.
+#[derive(Drop)]
+pub(crate) struct Captures<R: Input> {
+    /// Those of the ports, that of port 1 first.
+    pub ports: Vec<Capture<R>>,
+    pub underlay: Capture<R>,
+}
+
 /// Why a merge stops where a record of a capture of a part isn't copied.
 pub(crate) fn stopped_at(part: usize, tap: Tap, stop: Stop) -> MergeFault
     ensures { result ≡ Rattle.part_merge.specs.Moved.stopped_at part tap stop }
@@ -139,29 +147,37 @@ fn may_wait_for<R: Input>(
 fn copy_next<R: Input, W: Output>(
     part: usize,
     tap: Tap,
-    ports: &mut [Capture<R>],
-    underlay: &mut Capture<R>,
+    captures: &mut Captures<R>,
     port_sinks: &mut [Sink<W>],
     underlay_sink: &mut Sink<W>,
     decisions: &mut W,
     may_wait: bool,
 ) -> Result<(), MergeFault>
-    requires { length port_sinks.old ≡ length ports.old }
-    ensures copied { (text : List ℕ) (rest : ATap → List ℕ) → IsTap (length ports.old) tap → IsWritten text
-        → AreLeft (λ t. at_tap t tap text ++ rest t) ports.old underlay.old
-        → Moves rest (λ t. at_tap t tap text) ports.new underlay.new port_sinks.old underlay_sink.old port_sinks.new
-        underlay_sink.new result }
+    requires { length port_sinks.old ≡ length captures.old.ports.items }
+    ensures ports { length captures.new.ports.items ≡ length captures.old.ports.items }
+    ensures copied { (text : List ℕ) (rest : ATap → List ℕ) → IsTap (length captures.old.ports.items) tap → IsWritten text
+        → AreLeft (λ t. at_tap t tap text ++ rest t) captures.old.ports.items captures.old.underlay
+        → Moves rest (λ t. at_tap t tap text) captures.new.ports.items captures.new.underlay port_sinks.old underlay_sink.old
+        port_sinks.new underlay_sink.new result }
     ensures kept { OnOk result (Keeps (W.written decisions.old) (W.written decisions.new)) }
-    ensures reads { CapturesRead part ports.old underlay.old ports.new underlay.new result }
+    ensures reads { CapturesRead part captures.old.ports.items captures.old.underlay captures.new.ports.items
+        captures.new.underlay result }
     ensures writes { WritesWith port_sinks.old underlay_sink.old (W.failures decisions.old) port_sinks.new underlay_sink.new
         (W.failures decisions.new) result }
     ensures waits { IsOutAtRead may_wait port_sinks.new underlay_sink.new (W.held decisions.new) result }
 {
-    let waits = may_wait_for(may_wait, tap, ports, underlay);
+    let waits = may_wait_for(may_wait, tap, captures.ports.as_slice(), &captures.underlay);
     if let Err(fault) = hand_on_before(waits, port_sinks, underlay_sink, decisions) {
         return Err(fault);
     }
-    copy_at(part, tap, ports, underlay, port_sinks, underlay_sink)
+    copy_at(
+        part,
+        tap,
+        captures.ports.as_mut_slice(),
+        &mut captures.underlay,
+        port_sinks,
+        underlay_sink,
+    )
 }
 
 /// Copies the next record of each of some places, in order. Before each read that may wait all that the outputs hold back is
@@ -169,21 +185,22 @@ fn copy_next<R: Input, W: Output>(
 pub(crate) fn copy_all<R: Input, W: Output>(
     part: usize,
     places: Places<'_>,
-    ports: &mut [Capture<R>],
-    underlay: &mut Capture<R>,
+    captures: &mut Captures<R>,
     port_sinks: &mut [Sink<W>],
     underlay_sink: &mut Sink<W>,
     decisions: &mut W,
     may_wait: bool,
 ) -> Result<(), MergeFault>
-    requires { length port_sinks.old ≡ length ports.old }
+    requires { length port_sinks.old ≡ length captures.old.ports.items }
+    ensures ports { length captures.new.ports.items ≡ length captures.old.ports.items }
     ensures copied { (records : List (ATap × List ℕ)) (rest : ATap → List ℕ) → places.entry ≡ taps records
-        → AreRecords (length ports.old) records
-        → AreLeft (λ t. records_at t records ++ rest t) ports.old underlay.old
-        → Moves rest (λ t. records_at t records) ports.new underlay.new port_sinks.old underlay_sink.old port_sinks.new
-        underlay_sink.new result }
+        → AreRecords (length captures.old.ports.items) records
+        → AreLeft (λ t. records_at t records ++ rest t) captures.old.ports.items captures.old.underlay
+        → Moves rest (λ t. records_at t records) captures.new.ports.items captures.new.underlay port_sinks.old underlay_sink.old
+        port_sinks.new underlay_sink.new result }
     ensures kept { OnOk result (Keeps (W.written decisions.old) (W.written decisions.new)) }
-    ensures reads { CapturesRead part ports.old underlay.old ports.new underlay.new result }
+    ensures reads { CapturesRead part captures.old.ports.items captures.old.underlay captures.new.ports.items
+        captures.new.underlay result }
     ensures writes { WritesWith port_sinks.old underlay_sink.old (W.failures decisions.old) port_sinks.new underlay_sink.new
         (W.failures decisions.new) result }
     ensures waits { IsOutAtRead may_wait port_sinks.new underlay_sink.new (W.held decisions.new) result }
@@ -193,8 +210,7 @@ pub(crate) fn copy_all<R: Input, W: Output>(
         if let Err(fault) = copy_next(
             part,
             tap,
-            ports,
-            underlay,
+            captures,
             port_sinks,
             underlay_sink,
             decisions,

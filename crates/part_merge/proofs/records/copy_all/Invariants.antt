@@ -11,12 +11,12 @@ use Rattle.part_merge.proofs.records.copy_all.Given as goal
 -- some of the records were copied, and the others are left
 abbrev pub invariant-loop-tap : goal.invariant-loop-tap
 invariant-loop-tap g l = record {
-  ports : length l.ports ≡ length l.initial.ports;
-  sinks : length l.port_sinks ≡ length l.ports;
-  copied : (records : List (Tap × List ℕ)) (rest : Tap → List ℕ) → l.initial.places ≡ taps records → AreRecords (length l.initial.ports) records
-      → AreLeft (λ t. records_at t records ++ rest t) l.initial.ports l.initial.underlay
-      → CopiedSoFar records rest l.places (length l.initial.ports) l.ports l.underlay l.initial.port_sinks l.initial.underlay_sink l.port_sinks l.underlay_sink;
-  reads : captures_health l.ports l.underlay ≡ captures_health l.initial.ports l.initial.underlay;
+  ports : length l.captures.ports.items ≡ length l.initial.captures.ports.items;
+  sinks : length l.port_sinks ≡ length l.captures.ports.items;
+  copied : (records : List (Tap × List ℕ)) (rest : Tap → List ℕ) → l.initial.places ≡ taps records → AreRecords (length l.initial.captures.ports.items) records
+      → AreLeft (λ t. records_at t records ++ rest t) l.initial.captures.ports.items l.initial.captures.underlay
+      → CopiedSoFar records rest l.places (length l.initial.captures.ports.items) l.captures.ports.items l.captures.underlay l.initial.port_sinks l.initial.underlay_sink l.port_sinks l.underlay_sink;
+  reads : captures_health l.captures.ports.items l.captures.underlay ≡ captures_health l.initial.captures.ports.items l.initial.captures.underlay;
   lines : Keeps (g.W.Output.written l.initial.decisions) (g.W.Output.written l.decisions);
   writes : outputs_health l.port_sinks l.underlay_sink (g.W.Output.failures l.decisions) ≡ outputs_health l.initial.port_sinks l.initial.underlay_sink (g.W.Output.failures l.initial.decisions);
 }

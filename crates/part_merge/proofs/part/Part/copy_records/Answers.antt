@@ -29,11 +29,11 @@ returns-in-Err-clause-copied g c = λ number records rest told sound left.
 pub returns-clause-copied : goal.returns-clause-copied
 returns-clause-copied g c = λ number records rest told sound left.
     let line = c.line-line.ensures.line ∙ ap (λ (s : OpenPart). s.reader.line) c.self.view_is in
-    let ports = c.as_mut_slice.ensures.value ∙ ap (λ (s : OpenPart). s.ports) c.self.view_is in
+    let ports = ap (λ (s : OpenPart). s.ports) c.self.view_is in
     let underlay = ap (λ (s : OpenPart). s.underlay) c.self.view_is in
     let told_here = ap facts_of line ∙ told in
     let sound_here = subst (λ (l : List Stream). AreRecords (length l) records) (sym ports) sound in
-    let left_here = subst (λ (l : List Stream). AreLeft (λ t. records_at t records ++ rest t) l c.self.inside.underlay) (sym ports)
+    let left_here = subst (λ (l : List Stream). AreLeft (λ t. records_at t records ++ rest t) l c.self.inside.captures.underlay) (sym ports)
     (subst (λ (u : Stream). AreLeft (λ t. records_at t records ++ rest t) c.args.self.now.ports u) (sym underlay) left) in
     let same : c.match-self.places ≡ taps records = elim c.match-self.branch [
       | in-Some w ↦
@@ -46,13 +46,12 @@ returns-clause-copied g c = λ number records rest told sound left.
           let there : w.in-Ok-Event.places ≡ taps records = cc in
           w.places-is ∙ there
     ] in
-    rw (with_items_is c.self.inside.ports c.copy_all.new.ports (search (rules, places))) (c.copy_all.ensures.copied records rest same sound_here left_here)
+    c.copy_all.ensures.copied records rest same sound_here left_here
 
 pub returns-clause-reads : goal.returns-clause-reads
 returns-clause-reads g c =
-    rw (with_items_is c.self.inside.ports c.copy_all.new.ports (search (rules, places)))
-    (captures_part c.args.part c.args.self.now _ (record { reader = c.self.inside.lines; ports = c.copy_all.new.ports; underlay = c.copy_all.new.underlay; coming = c.self.inside.coming }) _ c.copy_all.result
-    c.self.view_is c.as_mut_slice.ensures.value refl c.copy_all.ensures.reads)
+    captures_part c.args.part c.args.self.now _ (record { reader = c.self.inside.lines; ports = c.copy_all.new.captures.ports.items; underlay = c.copy_all.new.captures.underlay; coming = c.self.inside.coming }) _ c.copy_all.result
+    c.self.view_is refl refl c.copy_all.ensures.reads
 
 pub returns-clause-writes : goal.returns-clause-writes
 returns-clause-writes g c = c.copy_all.ensures.writes

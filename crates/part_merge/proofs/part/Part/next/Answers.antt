@@ -18,7 +18,7 @@ returns-in-Err-clause-next g c = λ count pieces cuts stand.
 pub returns-in-Ok-clause-next : goal.returns-in-Ok-clause-next
 returns-in-Ok-clause-next g c = λ count pieces cuts stand.
     let before = subst (StandBehind count pieces cuts) (sym c.self.view_is) stand in
-    comes_next c.args.part count pieces cuts _ c.fetch.new.self c.self.inside.ports.items c.self.inside.underlay c.is_cut-was_cut.result c.line.result.now c.in-Ok.told.coming c.in_default.field-0 before c.in_default.ensures.fetched c.is_cut-was_cut.ensures c.line.ensures.line c.in-Ok.ensures.coming
+    comes_next c.args.part count pieces cuts _ c.fetch.new.self c.self.inside.captures.ports.items c.self.inside.captures.underlay c.is_cut-was_cut.result c.line.result.now c.in-Ok.told.coming c.in_default.field-0 before c.in_default.ensures.fetched c.is_cut-was_cut.ensures c.line.ensures.line c.in-Ok.ensures.coming
 
 pub returns-in-Err-coming_of-clause-next : goal.returns-in-Err-coming_of-clause-next
 returns-in-Err-coming_of-clause-next g c = λ count pieces cuts stand.

@@ -4,8 +4,8 @@ use Rattle.std.specs.Coded.{Coded, code_by, coded×, coded_ℕ, coded_list}
 use Rattle.both_ways.specs.Sieve.{Seen}
 use Rattle.echo_window.specs.Echo.{Window}
 use Rattle.echo_window.specs.contracts.window.Window as window
-use Rattle.underlay.specs.contracts.settings.Underlay as settings
-use Rattle.underlay.specs.declared.settings.Underlay.{Underlay}
+use Rattle.overlay.specs.contracts.underlay.settings.Underlay as settings
+use Rattle.overlay.specs.declared.underlay.settings.Underlay.{Underlay}
 
 -- as the settings, and the window with the counts
 abbrev pub seen_code : Coded Seen

@@ -6,7 +6,7 @@ use Rattle.both_ways.specs.Told.{place_of}
 use Rattle.timeline.specs.declared.event.Event.{Event}
 use Rattle.timeline.specs.declared.event.Happening.{Happening}
 use Rattle.timeline.specs.declared.event.Happening.TheVariants as happenings
-use Rattle.underlay.specs.declared.settings.Underlay.{Underlay}
+use Rattle.overlay.specs.declared.underlay.settings.Underlay.{Underlay}
 
 -- those of some events in a row that aren't input
 abbrev pub left_out : Seen → List Event → List Event

@@ -11,7 +11,7 @@ use Rattle.both_ways.specs.Told.{Told, Sent, Frame, Bare, place_of, told_of}
 use Rattle.timeline.specs.declared.event.Event.{Event}
 use Rattle.timeline.specs.declared.event.Happening.{Happening}
 use Rattle.timeline.specs.declared.event.Happening.TheVariants as happenings
-use Rattle.underlay.specs.declared.settings.Underlay.{Underlay}
+use Rattle.overlay.specs.declared.underlay.settings.Underlay.{Underlay}
 
 -- what is known behind some events: the settings of the underlay; the frames that came in; and for each place by its number how
 -- many records were left out there, up to the greatest number of 64 bits

@@ -8,13 +8,13 @@ use Rattle.std.specs.Prelude.{ℕ, ◌++◌, is_some, if◌then◌else◌, List,
 use Rattle.both_ways.specs.declared.told.Told.{Told as Read}
 use Rattle.both_ways.specs.declared.told.Told.TheVariants as reads
 use Rattle.decapsulate.specs.Arrival.{Packet, carried_reasons, frame_reasons, inner_of, kind_to, packet_in}
-use Rattle.frame_view.specs.Ether.{Untagged, WithTag, CutShort, tag_split}
-use Rattle.frame_view.specs.First.{first}
-use Rattle.ip_udp_view.specs.Udp.{data_of}
+use Rattle.wire.specs.Ether.{Untagged, WithTag, CutShort, tag_split}
+use Rattle.wire.specs.First.{first}
+use Rattle.wire.specs.Udp.{data_of}
 use Rattle.timeline.specs.declared.source.Tap.{Tap}
 use Rattle.timeline.specs.declared.source.Tap.TheVariants.{Port, Underlay as AtUnderlay}
-use Rattle.underlay.specs.Settings.{is_own}
-use Rattle.underlay.specs.declared.settings.Underlay.{Underlay}
+use Rattle.overlay.specs.UnderlaySettings.{is_own}
+use Rattle.overlay.specs.declared.underlay.settings.Underlay.{Underlay}
 
 -- the number of a place: 0 for the underlay, that of a port from 1
 abbrev pub place_of : Tap → ℕ

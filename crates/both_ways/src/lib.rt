@@ -2,7 +2,8 @@
 //! itself sent there.
 //!
 //! Use first: [`BothWays`], a sieve of `stream_run`'s runs, is shown one event after another, of all places in order of moment,
-//! and says of each whether it is input; what isn't, it counts by places. It takes its memory when it is made.
+//! and says of each whether it is input; what isn't, it counts by places. It takes its memory when it is made. [`sieve_of`] makes
+//! one of a settings text.
 //!
 //! Specs to read, in order: `specs/Told`, `specs/Sieve`, `specs/Laws`, and `echo_window`'s `specs/Echo`.
 //!
@@ -11,6 +12,14 @@
 //! endpoint's own address as its source and whose frame, where it carries one to the endpoint, is no such echo. Rows behind
 //! one another are taken as one ([`laws::takes_in_turn`]), and behind a run each count tells how many records of its place
 //! were left out ([`laws::counts_what_is_left_out`]), up to the greatest number of 64 bits.
+//!
+//! Proved besides:
+//! - Which events of a run are input, each in turn, where captures hold both directions: no echo of a frame that came
+//!   in elsewhere, whatever its VLAN tag or its tunnel, and no packet from the endpoint's own address:
+//!   `BothWays::is_input`.
+//! - So a run is given it as its sieve, and its outputs are those of these events: `Sieve for BothWays`.
+//! - How many records of each place aren't input, up to 2^64 - 1: `BothWays::left_out`,
+//!   `laws::counts_what_is_left_out`.
 //!
 //! Why it is so: captures tell no directions, so a record is taken for what the switch sent where a frame came in elsewhere
 //! that explains it, and once for each place. A frame is compared without its tag, since each port has its own way to tag.
@@ -21,8 +30,10 @@
 //! direction tell that better.
 #![tactic(auto)]
 
+mod asked;
 pub mod laws;
 mod sieve;
 mod told;
 
+pub use asked::{WITHIN, sieve_of};
 pub use sieve::BothWays;

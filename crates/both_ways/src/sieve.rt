@@ -8,11 +8,11 @@ ghost use Rattle.both_ways.specs.Told.{place_of, seen, told_of};
 
 use crate::told::{FrameText, Told, place_of, told_of};
 use echo_window::{Record, Window};
+use overlay::underlay::{Hops, Underlay};
 use std::alloc::{AllocError, Global};
 use std::marker::Model;
 use stream_run::Sieve;
 use timeline::{Event, Happening, Tap};
-use underlay::{Hops, Underlay};
 
 /// How many numbers a place could have.
 const PLACES: usize = 256;

@@ -3,9 +3,9 @@ ghost use Rattle.std.specs.Prelude.{◌≡◌, ◌++◌, if◌then◌else◌};
 ghost use Rattle.both_ways.specs.Told.{Sent, Bare, packet_told, place_of, seen, told_of, underlay_told, untagged};
 
 use decapsulate::{Packet, carried_in};
-use frame_view::{EtherView, Tagging};
+use overlay::underlay::Underlay;
 use timeline::Tap;
-use underlay::Underlay;
+use wire::ether::{EtherView, Tagging};
 
 /// A frame without its VLAN tag: two texts, one behind the other.
 #[derive(Clone, Copy, Debug)]

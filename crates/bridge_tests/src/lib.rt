@@ -7,7 +7,7 @@
 //!
 //! What is expected was worked out by hand from IEEE 802.1Q, 6.9 and 8.6 to 8.8, never taken from a run.
 //!
-//! Ports and their segments, and flood lists of a run, are in rows of `tests/rows.sh`, since those need no proof;
+//! Ports and their segments, and flood lists of a run, are in rows of `tests/run/rows.sh`, since those need no proof;
 //! `flood_lists_tests` has lists of up to 512 entries, and when they take room.
 #![tactic(auto)]
 

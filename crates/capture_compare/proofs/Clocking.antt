@@ -2,10 +2,10 @@
 use Rattle.std.proofs.Common.{◌≡◌, ℕ, ◌+◌, ◌<◌, ◌≤◌, max, Bool, true, false, nat_le, nat_lt, List, [], ◌∷◌, ◌++◌, length, refl, sym, ap, ◌∙◌, subst, arith, append_assoc, length-append}
 use Rattle.std.proofs.lemmas.List.{append-nil}
 use Rattle.std.proofs.lemmas.Bool.{le-leb, le-ltb, lt-leb, lt-ltb}
-use Rattle.pcap_io.specs.Record.{Record}
+use Rattle.pcap.specs.Record.{Record}
 use Rattle.capture_compare.specs.Clocked.{AreBefore, AreUpTo, Seen, before, latest, latest_behind, on_clock, seen_at, sent_by, timed, up_to}
 use Rattle.capture_compare.specs.Compared.{AllHadRoom, has_room_for}
-use Rattle.carried_key.specs.declared.key.Manner.{Manner}
+use Rattle.capture_compare.specs.declared.carried.key.Manner.{Manner}
 
 -- ---- a clock
 

@@ -1,29 +1,29 @@
 -- The records of one capture, fetched one after another.
 use Rattle.std.proofs.Common.{◌≡◌, ◌≢◌, ◌∙◌, refl, sym, ap, subst, ℕ, ◌+◌, ◌≤◌, max, List, [], ◌∷◌, length, length-append, arith, Option, Some, None, Result, Ok, Err}
-use Rattle.pcap_io.specs.Capture.{opened, opened_by}
-use Rattle.pcap_io.specs.Header.{style_of}
-use Rattle.pcap_io.specs.Next.{End, Whole, Cut, Faulty}
-use Rattle.pcap_io.specs.Reading.{Reading, records}
-use Rattle.pcap_io.specs.Record.{Record}
-use Rattle.pcap_io.specs.declared.header.CaptureFault.{CaptureFault}
-use Rattle.pcap_io.specs.declared.header.CaptureFault.TheVariants as capture
-use Rattle.pcap_io.specs.declared.record.RecordFault.{RecordFault}
-use Rattle.pcap_io.specs.declared.record.RecordFault.TheVariants as record_
-use Rattle.pcap_io.specs.declared.style.Style.{Style}
-use Rattle.pcap_stream.specs.Fault.{capture_fault, record_fault}
-use Rattle.pcap_stream.specs.InTurn.{IsReading, IsWhole}
-use Rattle.pcap_stream.specs.Source.{Stream, New, IsFilled, IsOpened, ReadsHeader, after_end, answer, lent, most_left}
-use Rattle.pcap_stream.specs.declared.fault.SourceFault.{SourceFault}
-use Rattle.pcap_stream.specs.declared.fault.SourceFault.TheVariants as source
-use Rattle.pcap_stream.proofs.Runs.{begins, ends, one_more}
-use Rattle.pcap_stream.proofs.Refusals.{faulty_end, is_refused, lends_none, no_answer, told_style}
+use Rattle.pcap.specs.Capture.{opened, opened_by}
+use Rattle.pcap.specs.Header.{style_of}
+use Rattle.pcap.specs.Next.{End, Whole, Cut, Faulty}
+use Rattle.pcap.specs.Reading.{Reading, records}
+use Rattle.pcap.specs.Record.{Record}
+use Rattle.pcap.specs.declared.text.header.CaptureFault.{CaptureFault}
+use Rattle.pcap.specs.declared.text.header.CaptureFault.TheVariants as capture
+use Rattle.pcap.specs.declared.text.record.RecordFault.{RecordFault}
+use Rattle.pcap.specs.declared.text.record.RecordFault.TheVariants as record_
+use Rattle.pcap.specs.declared.text.style.Style.{Style}
+use Rattle.pcap.specs.Fault.{capture_fault, record_fault}
+use Rattle.pcap.specs.InTurn.{IsReading, IsWhole}
+use Rattle.pcap.specs.Source.{Stream, New, IsFilled, IsOpened, ReadsHeader, after_end, answer, lent, most_left}
+use Rattle.pcap.specs.declared.stream.fault.SourceFault.{SourceFault}
+use Rattle.pcap.specs.declared.stream.fault.SourceFault.TheVariants as source
+use Rattle.pcap.proofs.Runs.{begins, ends, one_more}
+use Rattle.pcap.proofs.Refusals.{faulty_end, is_refused, lends_none, no_answer, told_style}
 use Rattle.capture_compare.specs.Clocked.{latest, on_clock}
 use Rattle.capture_compare.specs.Compared.{fault_behind, fault_in, fault_of, records_in, records_of}
 use Rattle.capture_compare.specs.Turns.{HasLent, IsDone, IsItsFault, StopsBehind, Waits, source_fault}
 use Rattle.capture_compare.specs.declared.fault.CompareFault.{CompareFault}
 use Rattle.capture_compare.specs.declared.fault.CompareFault.TheVariants as faults
 use Rattle.capture_compare.specs.declared.fault.Side.{Side}
-use Rattle.carried_key.specs.declared.key.Manner.{Manner}
+use Rattle.capture_compare.specs.declared.carried.key.Manner.{Manner}
 
 -- ---- the opening
 

@@ -1,7 +1,7 @@
 -- A step over a record that was received.
 use Rattle.std.proofs.Common.{◌≡◌, ◌∙◌, refl, sym, ap, subst, ℕ, ◌≤◌, ◌<◌, List, [], ◌∷◌, ◌++◌, arith, Option, Some, None, IfSome, Result, Ok, Err}
-use Rattle.pcap_io.specs.Record.{Record}
-use Rattle.pcap_stream.specs.Source.{Stream, lent}
+use Rattle.pcap.specs.Record.{Record}
+use Rattle.pcap.specs.Source.{Stream, lent}
 use Rattle.capture_compare.specs.Sifted.{IsSifted, Sifting}
 use Rattle.record_match.specs.declared.clock.Clock.{Clock}
 use Rattle.capture_compare.specs.Clocked.{AreBefore, AreUpTo, Seen, latest, on_clock, seen_at, sent_by, up_to}
@@ -15,7 +15,7 @@ use Rattle.capture_compare.proofs.Clocking.{StartsAt, before-one, clock-one, lat
 use Rattle.capture_compare.proofs.Standing.{turn-received, same-moment, splits, starts-behind, none-waits, counts-of}
 use Rattle.capture_compare.proofs.Telling.{AfterReceived, received-stops}
 use Rattle.capture_compare.proofs.Sending.{waits-by, next-later, if-some}
-use Rattle.carried_key.specs.declared.key.Manner.{Manner}
+use Rattle.capture_compare.specs.declared.carried.key.Manner.{Manner}
 
 pub record ReceivesNext (manner : Manner) (clock : Clock) (r0 r : Stream) (sending : Coming) (sent received : List Record) (count m : ℕ) : Type 0 where
   pub waits : Waits manner clock.received_delay r0 r received count m

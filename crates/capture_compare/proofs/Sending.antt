@@ -1,7 +1,7 @@
 -- A step over a record that was sent.
 use Rattle.std.proofs.Common.{◌≡◌, ◌∙◌, refl, sym, ap, subst, ℕ, ◌-◌, ◌≤◌, true, false, List, [], ◌∷◌, ◌++◌, arith, Option, Some, None, IfSome, Result, Ok, Err}
-use Rattle.pcap_io.specs.Record.{Record}
-use Rattle.pcap_stream.specs.Source.{Stream, lent}
+use Rattle.pcap.specs.Record.{Record}
+use Rattle.pcap.specs.Source.{Stream, lent}
 use Rattle.capture_compare.specs.Sifted.{IsSifted, Sifting}
 use Rattle.record_match.specs.Window.{at_moment}
 use Rattle.record_match.specs.declared.clock.Clock.{Clock}
@@ -17,8 +17,8 @@ use Rattle.capture_compare.specs.declared.fault.Side.TheVariants as sides
 use Rattle.capture_compare.proofs.Clocking.{before-front, before-later, clock-one, latest-one, room-one, up-to-one}
 use Rattle.capture_compare.proofs.Standing.{turn-sent, waits-parts, splits, starts-at, none-waits, room-later, counts-of, room-is}
 use Rattle.capture_compare.proofs.Telling.{AfterSent, sent-stops}
-use Rattle.carried_key.specs.declared.key.Manner.{Manner}
-use Rattle.carried_key.specs.Key.{told_by}
+use Rattle.capture_compare.specs.declared.carried.key.Manner.{Manner}
+use Rattle.capture_compare.specs.Key.{told_by}
 
 -- the next one waits
 pub waits-by : (manner : Manner) (side : Side) (delay : ℕ) (start now : Stream) (rs : List Record) (c : Coming) (m : ℕ) → c.next ≡ Some m → Stands manner side delay start now rs c → Waits manner delay start now rs c.fetched m

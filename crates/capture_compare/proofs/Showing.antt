@@ -1,8 +1,8 @@
 -- A step of a comparison, shown to whoever looks on.
 use Rattle.std.proofs.Common.{◌≡◌, ◌∙◌, sym, subst, ℕ, ◌-◌, ◌≤◌, List, [], ◌∷◌, ◌++◌, Some, Result, Ok, Err}
 use Rattle.std.specs.List.{FoldsTo}
-use Rattle.pcap_io.specs.Record.{Record}
-use Rattle.pcap_stream.specs.Source.{Stream, lent}
+use Rattle.pcap.specs.Record.{Record}
+use Rattle.pcap.specs.Source.{Stream, lent}
 use Rattle.record_match.specs.Compared.{Counted}
 use Rattle.record_match.specs.Settled.{Fact}
 use Rattle.record_match.specs.Window.{at_moment}
@@ -20,8 +20,8 @@ use Rattle.capture_compare.proofs.Receiving.{receives-next}
 use Rattle.capture_compare.proofs.Sending.{sends-next}
 use Rattle.capture_compare.proofs.Sifting.{same-record}
 use Rattle.capture_compare.proofs.Stepping.{step-full-by, step-received-by, step-sent-by}
-use Rattle.carried_key.specs.declared.key.Manner.{Manner}
-use Rattle.carried_key.specs.Key.{told_by}
+use Rattle.capture_compare.specs.declared.carried.key.Manner.{Manner}
+use Rattle.capture_compare.specs.Key.{told_by}
 
 module _ {W : Type 0} (sees : W → Fact → W → Type 0) where
   -- at a record that was sent for which there is no room

@@ -2,7 +2,7 @@
 use Rattle.std.proofs.Common.{◌≡◌, ◌∙◌, refl, sym, ap, subst, ℕ, ◌+◌, ◌<◌, ◌≤◌, Bool, true, false, List, [], ◌∷◌, ◌++◌, length, length-append, arith, Option, Some, None}
 use Rattle.std.proofs.lemmas.List.{append-nil}
 use Rattle.std.proofs.lemmas.Bool.{cond-false, cond-true}
-use Rattle.pcap_io.specs.Record.{Record}
+use Rattle.pcap.specs.Record.{Record}
 use Rattle.record_match.specs.Compared.{AreBefore as AreMatchedBefore, Counted, IsCompared, facts_of, logged}
 use Rattle.record_match.specs.Match.{Record as Matched}
 use Rattle.record_match.specs.Settled.{Fact, gone_alone}
@@ -13,8 +13,8 @@ use Rattle.capture_compare.specs.Compared.{takes}
 use Rattle.capture_compare.specs.Sifted.{IsSifted, received_facts, sent_facts, sifting}
 use Rattle.capture_compare.specs.Turns.{unless_full}
 use Rattle.capture_compare.specs.declared.aside.Aside.{Aside}
-use Rattle.carried_key.specs.declared.key.Manner.{Manner}
-use Rattle.carried_key.specs.Key.{is_ignored, key_by, told_by}
+use Rattle.capture_compare.specs.declared.carried.key.Manner.{Manner}
+use Rattle.capture_compare.specs.Key.{is_ignored, key_by, told_by}
 
 -- ---- those that are kept of several
 

@@ -2,10 +2,10 @@
 use Rattle.std.proofs.Common.{◌≡◌, ◌∙◌, refl, sym, ap, subst, ℕ, ◌≤◌, ◌<◌, nat_le, Bool, true, false, List, [], ◌∷◌, ◌++◌, length, map, append_assoc, arith, Option, Some, None, IfSome, Result}
 use Rattle.std.proofs.lemmas.List.{append-nil}
 use Rattle.std.proofs.lemmas.Bool.{leb-false, leb-true}
-use Rattle.pcap_io.specs.Reading.{Reading, records}
-use Rattle.pcap_io.specs.Record.{Record}
-use Rattle.pcap_io.specs.declared.header.CaptureFault.{CaptureFault}
-use Rattle.pcap_stream.specs.Source.{Stream}
+use Rattle.pcap.specs.Reading.{Reading, records}
+use Rattle.pcap.specs.Record.{Record}
+use Rattle.pcap.specs.declared.text.header.CaptureFault.{CaptureFault}
+use Rattle.pcap.specs.Source.{Stream}
 use Rattle.record_match.specs.Compared.{octets_in}
 use Rattle.record_match.specs.Match.{Sent, as_sent, matched, received_count}
 use Rattle.record_match.specs.Settled.{alone_from, told_from}
@@ -19,8 +19,8 @@ use Rattle.capture_compare.specs.declared.coming.Coming.{Coming}
 use Rattle.capture_compare.specs.declared.turn.Turn.TheVariants as turns
 use Rattle.capture_compare.specs.declared.fault.Side.{Side}
 use Rattle.capture_compare.proofs.Clocking.{StartsAt, StartsBehind, clock-append, clock-one, not-longer, room-more}
-use Rattle.carried_key.specs.declared.key.Manner.{Manner}
-use Rattle.carried_key.specs.Key.{told_by}
+use Rattle.capture_compare.specs.declared.carried.key.Manner.{Manner}
+use Rattle.capture_compare.specs.Key.{told_by}
 
 -- ---- whose turn
 

@@ -1,8 +1,8 @@
 -- The beginning and the end of a comparison, and its steps by what their calls tell.
 use Rattle.std.proofs.Common.{◌≡◌, ◌≢◌, ◌∙◌, refl, sym, ap, subst, ℕ, ◌+◌, ◌-◌, ◌^◌, ◌≤◌, ◌<◌, Bool, true, false, List, [], ◌∷◌, ◌++◌, length, length-append, arith, Option, Some, None, IfSome, Result, Ok, Err}
 use Rattle.std.specs.Prelude.{IsSome}
-use Rattle.pcap_io.specs.Record.{Record}
-use Rattle.pcap_stream.specs.Source.{Stream, lent, most_left}
+use Rattle.pcap.specs.Record.{Record}
+use Rattle.pcap.specs.Source.{Stream, lent, most_left}
 use Rattle.capture_compare.specs.Sifted.{IsSifted, Sifting, sifting}
 use Rattle.record_match.specs.Compared.{Counted}
 use Rattle.record_match.specs.Match.{Record as Matched, matched, received_count}
@@ -25,8 +25,8 @@ use Rattle.capture_compare.proofs.Standing.{turn-done, splits, none-waits, count
 use Rattle.capture_compare.proofs.Telling.{sent-stops, received-stops}
 use Rattle.capture_compare.proofs.Sending.{sends-next, step-full, sent-now, if-some, step-sent}
 use Rattle.capture_compare.proofs.Receiving.{receives-next, received-now, step-received}
-use Rattle.carried_key.specs.declared.key.Manner.{Manner}
-use Rattle.carried_key.specs.Key.{told_by}
+use Rattle.capture_compare.specs.declared.carried.key.Manner.{Manner}
+use Rattle.capture_compare.specs.Key.{told_by}
 
 -- ---- the beginning and the end
 

@@ -1,8 +1,8 @@
 -- What is told where a capture is not read on.
 use Rattle.std.proofs.Common.{◌≡◌, ◌≢◌, ◌∙◌, sym, ap, subst, ℕ, List, [], ◌∷◌, ◌++◌, arith, Some, None}
 use Rattle.std.proofs.lemmas.List.{append-nil}
-use Rattle.pcap_io.specs.Record.{Record}
-use Rattle.pcap_stream.specs.Source.{Stream}
+use Rattle.pcap.specs.Record.{Record}
+use Rattle.pcap.specs.Source.{Stream}
 use Rattle.capture_compare.specs.Sifted.{Sifting}
 use Rattle.record_match.specs.declared.clock.Clock.{Clock}
 use Rattle.capture_compare.specs.Clocked.{Seen, latest, on_clock, received_by, sent_by, timed}
@@ -13,7 +13,7 @@ use Rattle.capture_compare.specs.declared.fault.CompareFault.TheVariants as faul
 use Rattle.capture_compare.specs.declared.fault.Side.{Side}
 use Rattle.capture_compare.specs.declared.fault.Side.TheVariants as sides
 use Rattle.capture_compare.proofs.Clocking.{StartsAt, clock-append}
-use Rattle.carried_key.specs.declared.key.Manner.{Manner}
+use Rattle.capture_compare.specs.declared.carried.key.Manner.{Manner}
 
 -- what was sent was taken up to a record at this moment; what was received, before it
 pub record AfterSent (clock : Clock) (received : List ℕ) (c : Sifting) (S R : List Seen) : Type 0 where

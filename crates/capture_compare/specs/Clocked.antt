@@ -4,10 +4,10 @@
 --     before       those that come before a moment
 --     up_to        those that come before it or at it
 use Rattle.std.specs.Prelude.{◌≤◌, ◌<◌, ⊤, ℕ, ◌+◌, max, nat_le, nat_lt, if◌then◌else◌, List, [], ◌∷◌, Option, Some, None}
-use Rattle.pcap_io.specs.Record.{Record}
+use Rattle.pcap.specs.Record.{Record}
 use Rattle.record_match.specs.Match.{Record as Matched}
-use Rattle.carried_key.specs.declared.key.Manner.{Manner}
-use Rattle.carried_key.specs.Key.{told_by}
+use Rattle.capture_compare.specs.declared.carried.key.Manner.{Manner}
+use Rattle.capture_compare.specs.Key.{told_by}
 
 -- a record of a capture: its moment in nanoseconds, and its key, where it isn't left aside
 pub record Seen : Type 0 where

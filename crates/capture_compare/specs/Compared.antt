@@ -4,11 +4,11 @@
 --     has_room_for   whether a window has room for one more record that was sent
 --     Tells          what is told of two captures, by the answer
 use Rattle.std.specs.Prelude.{◌≡◌, ◌≢◌, ⊤, ℕ, ◌+◌, Bool, true, false, List, [], ◌∷◌, ◌++◌, length, map, Option, Some, None, Result, Ok, Err}
-use Rattle.pcap_io.specs.Capture.{opened}
-use Rattle.pcap_io.specs.Next.{End, Whole, Cut, Faulty}
-use Rattle.pcap_io.specs.Reading.{Reading}
-use Rattle.pcap_io.specs.Record.{Record}
-use Rattle.pcap_io.specs.declared.header.CaptureFault.{CaptureFault}
+use Rattle.pcap.specs.Capture.{opened}
+use Rattle.pcap.specs.Next.{End, Whole, Cut, Faulty}
+use Rattle.pcap.specs.Reading.{Reading}
+use Rattle.pcap.specs.Record.{Record}
+use Rattle.pcap.specs.declared.text.header.CaptureFault.{CaptureFault}
 use Rattle.record_match.specs.Compared.{octets_in}
 use Rattle.record_match.specs.Match.{Record as Matched, as_sent, matched, received_count}
 use Rattle.record_match.specs.Settled.{alone_from, held_alone, of_received, of_sent, told_from}
@@ -20,7 +20,7 @@ use Rattle.capture_compare.specs.declared.fault.CompareFault.{CompareFault}
 use Rattle.capture_compare.specs.declared.fault.CompareFault.TheVariants as faults
 use Rattle.capture_compare.specs.declared.fault.Side.{Side}
 use Rattle.capture_compare.specs.declared.fault.Side.TheVariants as sides
-use Rattle.carried_key.specs.declared.key.Manner.{Manner}
+use Rattle.capture_compare.specs.declared.carried.key.Manner.{Manner}
 
 -- ---- a capture
 

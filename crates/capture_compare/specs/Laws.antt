@@ -3,7 +3,7 @@ use Rattle.std.specs.Prelude.{◌≡◌, ℕ, List}
 use Rattle.record_match.specs.declared.clock.Clock.{Clock}
 use Rattle.capture_compare.specs.Compared.{AreWhole}
 use Rattle.capture_compare.specs.Sifted.{Sifting}
-use Rattle.carried_key.specs.declared.key.Manner.{Manner}
+use Rattle.capture_compare.specs.declared.carried.key.Manner.{Manner}
 
 -- a capture that is compared with itself on one clock, to its end, by any manner: all that was sent and isn't left aside was received, and
 -- nothing else was; and as many were left aside on both sides

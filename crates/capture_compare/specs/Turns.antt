@@ -1,13 +1,13 @@
 -- Two captures amidst a comparison. It serves proofs.
 use Rattle.std.specs.Prelude.{◌≡◌, ◌≢◌, ◌≤◌, ◌<◌, ℕ, ◌+◌, ◌*◌, ◌^◌, max, nat_le, if◌then◌else◌, Bool, true, false}
 use Rattle.std.specs.Prelude.{List, [], ◌∷◌, ◌++◌, length, Option, Some, None, IfSome, IsSome, Result, Ok, Err}
-use Rattle.pcap_io.specs.Record.{Record}
-use Rattle.pcap_io.specs.declared.header.CaptureFault.TheVariants as capture
-use Rattle.pcap_io.specs.declared.record.RecordFault.TheVariants as record_
-use Rattle.pcap_stream.specs.InTurn.{IsReading}
-use Rattle.pcap_stream.specs.Source.{Stream, New, lent, most_left}
-use Rattle.pcap_stream.specs.declared.fault.SourceFault.{SourceFault}
-use Rattle.pcap_stream.specs.declared.fault.SourceFault.TheVariants as source
+use Rattle.pcap.specs.Record.{Record}
+use Rattle.pcap.specs.declared.text.header.CaptureFault.TheVariants as capture
+use Rattle.pcap.specs.declared.text.record.RecordFault.TheVariants as record_
+use Rattle.pcap.specs.InTurn.{IsReading}
+use Rattle.pcap.specs.Source.{Stream, New, lent, most_left}
+use Rattle.pcap.specs.declared.stream.fault.SourceFault.{SourceFault}
+use Rattle.pcap.specs.declared.stream.fault.SourceFault.TheVariants as source
 use Rattle.record_match.specs.Compared.{Counted}
 use Rattle.record_match.specs.Settled.{Fact, Shows}
 use Rattle.record_match.specs.declared.clock.Clock.{Clock}
@@ -22,7 +22,7 @@ use Rattle.capture_compare.specs.declared.fault.CompareFault.{CompareFault}
 use Rattle.capture_compare.specs.declared.fault.CompareFault.TheVariants as faults
 use Rattle.capture_compare.specs.declared.fault.Side.{Side}
 use Rattle.capture_compare.specs.declared.fault.Side.TheVariants as sides
-use Rattle.carried_key.specs.declared.key.Manner.{Manner}
+use Rattle.capture_compare.specs.declared.carried.key.Manner.{Manner}
 
 -- ---- one capture
 

@@ -1,13 +1,13 @@
 //! A capture whose records come one after another.
 ghost use Rattle.std.specs.Prelude.{◌≡◌, ◌≢◌, ◌≤◌, ◌<◌, ◌+◌, ◌^◌, IfSome, List, None, []};
-ghost use Rattle.pcap_io.specs.Record.{Record as ARecord};
-ghost use Rattle.pcap_stream.specs.Source.{New, Stream, most_left};
-ghost use Rattle.carried_key.specs.declared.key.Manner.{Manner as AManner};
+ghost use Rattle.pcap.specs.Record.{Record as ARecord};
+ghost use Rattle.pcap.specs.Source.{New, Stream, most_left};
+ghost use Rattle.capture_compare.specs.declared.carried.key.Manner.{Manner as AManner};
 ghost use Rattle.capture_compare.specs.Clocked.{latest, on_clock};
 ghost use Rattle.capture_compare.specs.Turns.{Fetches, HasLent};
 
 use crate::fault::{CompareFault, Side, source_fault};
-use pcap_stream::{Input, Source};
+use pcap::stream::{Input, Source};
 
 /// A capture whose records come one after another.
 #[derive(Clone, Copy)]

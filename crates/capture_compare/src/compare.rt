@@ -1,6 +1,6 @@
 //! The records of two captures in the order of their moments.
 ghost use Rattle.std.specs.Prelude.{◌≡◌, ◌≤◌, ◌<◌, ◌+◌, ◌^◌, ℕ, List, [], Some, IfSome, OnOk};
-ghost use Rattle.pcap_stream.specs.Source.{New, Stream, most_left};
+ghost use Rattle.pcap.specs.Source.{New, Stream, most_left};
 ghost use Rattle.record_match.specs.Compared.{IsCompared, logged};
 ghost use Rattle.record_match.specs.Settled.{Shows};
 ghost use Rattle.record_match.specs.declared.clock.Clock.{Clock as AClock};
@@ -11,12 +11,12 @@ ghost use Rattle.capture_compare.specs.declared.coming.Coming.{Coming as AComing
 ghost use Rattle.capture_compare.specs.declared.turn.Turn.TheVariants as turns;
 
 use crate::aside::Aside;
+use crate::carried::{KeyRoom, Manner};
 use crate::coming::Coming;
 use crate::fault::{CompareFault, Side};
 use crate::take::{take_received, take_sent};
 use crate::turn::{Turn, turn_of};
-use carried_key::{KeyRoom, Manner};
-use pcap_stream::{Input, Source};
+use pcap::stream::{Input, Source};
 use record_match::{Clock, Comparison, Onlooker};
 
 /// Compares two captures, those that were sent and those that were received, to their ends. Two records are the same where their

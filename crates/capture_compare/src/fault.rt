@@ -2,8 +2,8 @@
 ghost use Rattle.std.specs.Prelude.{◌≡◌};
 ghost use Rattle.capture_compare.specs.Turns.{source_fault};
 
-use pcap_io::{CaptureFault, RecordFault};
-use pcap_stream::SourceFault;
+use pcap::stream::SourceFault;
+use pcap::text::{CaptureFault, RecordFault};
 use std::fmt;
 use thiserror::Error;
 

@@ -1,20 +1,20 @@
 //! A record that was fetched, taken.
 ghost use Rattle.std.specs.Prelude.{◌≡◌, ◌≤◌, ◌<◌, ◌+◌, ◌-◌, ◌^◌, ◌++◌, ◌∷◌, [], ℕ, IsErr, IsOk, IsSome, List, Some, option_map};
-ghost use Rattle.pcap_io.specs.Record.{Record as ARecord};
-ghost use Rattle.pcap_stream.specs.Source.{lent};
+ghost use Rattle.pcap.specs.Record.{Record as ARecord};
+ghost use Rattle.pcap.specs.Source.{lent};
 ghost use Rattle.std.specs.List.{FoldsTo};
 ghost use Rattle.record_match.specs.Settled.{Fact};
 ghost use Rattle.record_match.specs.Window.{at_moment};
-ghost use Rattle.carried_key.specs.Key.{told_by};
+ghost use Rattle.capture_compare.specs.Key.{told_by};
 ghost use Rattle.capture_compare.specs.Clocked.{AreBefore, Seen as ASeen, seen_at};
 ghost use Rattle.capture_compare.specs.Compared.{takes};
 ghost use Rattle.capture_compare.specs.Sifted.{IsSifted, received_facts, sent_facts, sifting};
 ghost use Rattle.capture_compare.specs.Turns.{unless_full};
 
 use crate::aside::Aside;
+use crate::carried::{KeyRoom, Manner};
 use crate::fault::CompareFault;
-use carried_key::{KeyRoom, Manner};
-use pcap_stream::{Input, Source};
+use pcap::stream::{Input, Source};
 use record_match::{Comparison, Onlooker, Seen};
 
 /// Takes the record that was fetched of what was sent, with so many nanoseconds more at this moment, where it isn't left aside.

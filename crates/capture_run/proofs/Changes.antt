@@ -1,19 +1,19 @@
 -- The changes of a run, by their indices; and that no event adds or removes a port.
 use Rattle.std.proofs.Common.{◌≡◌, refl, ℕ, zero, suc, ◌+◌, ◌<◌, arith, Bool, true, false, cond, List, [], ◌∷◌, drop, length, map, slice_index_or, Option, Some, None, Result, Ok, Err}
 use Rattle.std.proofs.lemmas.List.{get_or-map, length-set}
-use Rattle.overlay_settings.specs.declared.change.Change.{Change}
-use Rattle.overlay_settings.specs.declared.change.TimedChange.{TimedChange}
-use Rattle.endpoint_state.specs.Settings.{Settings, SegmentSettings, segment_at}
-use Rattle.endpoint_state.specs.Effect.{Effect, ToFlood, ToBridge, ToLimit, ToMembers, ToPort, Comes, Goes, ToNothing, effect, applied}
-use Rattle.endpoint_state.specs.Change.{refused}
+use Rattle.overlay.specs.declared.settings.change.Change.{Change}
+use Rattle.overlay.specs.declared.settings.change.TimedChange.{TimedChange}
+use Rattle.endpoint_core.specs.Settings.{Settings, SegmentSettings, segment_at}
+use Rattle.endpoint_core.specs.Effect.{Effect, ToFlood, ToBridge, ToLimit, ToMembers, ToPort, Comes, Goes, ToNothing, effect, applied}
+use Rattle.endpoint_core.specs.Change.{refused}
 use Rattle.endpoint_core.specs.Event.{Input, Event, FrameAt, Packet, Asks}
 use Rattle.endpoint_core.specs.Step.{State, after, after_came, bridges_after}
 use Rattle.std.specs.Option.{option_map_or}
 use Rattle.std.specs.Prelude.{is_none}
-use Rattle.frame_view.specs.declared.reason.Refused.{Refused}
-use Rattle.underlay.specs.Overlay.{Overlay}
-use Rattle.endpoint_state.specs.State.{State as Bridges, aged, accepted_state}
-use Rattle.endpoint_core.specs.Came.{Came}
+use Rattle.wire.specs.declared.ether.reason.Refused.{Refused}
+use Rattle.overlay.specs.Overlay.{Overlay}
+use Rattle.endpoint_core.specs.State.{State as Bridges, aged, accepted_state}
+use Rattle.endpoint_core.specs.Arrival.{Arrival}
 use Rattle.endpoint_core.specs.Arrival.{came_at, came_by}
 use Rattle.capture_run.specs.Outputs.{change_at, no_change}
 
@@ -39,7 +39,7 @@ change_ports : (t : ℕ) (c : Change) (B : Bridges) (is : Bool) → length (cond
 change_ports t c B true = applied_ports (effect c) B.settings
 change_ports t c B false = refl
 
-came_ports : (t : ℕ) (B : Bridges) (came : Result Came Refused) → length (after_came t B came).settings.ports.ports ≡ length B.settings.ports.ports
+came_ports : (t : ℕ) (B : Bridges) (came : Result Arrival Refused) → length (after_came t B came).settings.ports.ports ≡ length B.settings.ports.ports
 came_ports t B (Ok x) = refl
 came_ports t B (Err refused) = refl
 

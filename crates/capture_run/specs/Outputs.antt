@@ -10,10 +10,10 @@ use Rattle.timeline.specs.declared.event.Happening.TheVariants as happenings
 use Rattle.timeline.specs.declared.source.Tap.TheVariants as taps
 use Rattle.timeline.specs.Timeline.{Timeline}
 use Rattle.timeline.specs.declared.timeline.Cut.{Cut}
-use Rattle.overlay_settings.specs.declared.change.Change.{Change}
-use Rattle.overlay_settings.specs.declared.change.Change.TheVariants.{PortUp}
-use Rattle.endpoint_state.specs.Change.{named}
-use Rattle.endpoint_state.specs.Settings.{Settings}
+use Rattle.overlay.specs.declared.settings.change.Change.{Change}
+use Rattle.overlay.specs.declared.settings.change.Change.TheVariants.{PortUp}
+use Rattle.endpoint_core.specs.Change.{named}
+use Rattle.endpoint_core.specs.Settings.{Settings}
 use Rattle.endpoint_core.specs.Event.{Input, FrameAt, Packet, Asks, Event}
 use Rattle.endpoint_core.specs.Step.{Answer}
 use Rattle.endpoint_core.specs.Run.{decisions}

@@ -3,10 +3,10 @@ use Rattle.std.specs.Prelude.{◌≡◌, ◌==◌, ℕ, if◌then◌else◌, Lis
 use Rattle.std.specs.declared.alloc.Global.{Global}
 use Rattle.overlay_config.specs.Fault.{Meaning}
 use Rattle.overlay_config.specs.Settings.{Settings}
-use Rattle.overlay_settings.specs.declared.change.TimedChange.{TimedChange}
+use Rattle.overlay.specs.declared.settings.change.TimedChange.{TimedChange}
 use Rattle.timeline.specs.Timeline.{Timeline, told}
 use Rattle.timeline.specs.declared.fault.TimelineFault.{TimelineFault}
-use Rattle.endpoint_state.specs.Opened.{settings_told}
+use Rattle.endpoint_core.specs.Opened.{settings_told}
 use Rattle.capture_run.specs.Fault.{of_timeline, of_settings, of_changes}
 use Rattle.capture_run.specs.Outputs.{Outputs, outputs}
 use Rattle.capture_run.specs.Writing.{seen}

@@ -5,8 +5,8 @@ use Rattle.std.specs.Prelude.{ℕ, ◌==◌, Bool, true, false, List, [], map, f
 use Rattle.std.specs.List.{filter_map, range_with_len}
 use Rattle.filter_db.specs.declared.place.Place.{Place}
 use Rattle.filter_db.specs.declared.place.Place.TheVariants.{Local, Remote}
-use Rattle.pcap_io.specs.Record.{Record}
-use Rattle.pcap_io.specs.Written.{whole_frame, written}
+use Rattle.pcap.specs.Record.{Record}
+use Rattle.pcap.specs.Written.{whole_frame, written}
 use Rattle.endpoint_core.specs.Decision.{Sent}
 use Rattle.endpoint_core.specs.Step.{Answer, Decided, Replied}
 

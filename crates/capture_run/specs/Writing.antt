@@ -3,9 +3,9 @@ use Rattle.std.specs.Prelude.{ℕ, ◌+◌, ◌-◌, ◌==◌, if◌then◌else�
 use Rattle.std.specs.Option.{option_map_or}
 use Rattle.filter_db.specs.declared.place.Place.{Place}
 use Rattle.filter_db.specs.declared.place.Place.TheVariants.{Local, Remote}
-use Rattle.pcap_io.specs.Written.{written_header, written_record}
+use Rattle.pcap.specs.Written.{written_header, written_record}
 use Rattle.timeline.specs.declared.event.Event.{Event as Happens}
-use Rattle.overlay_settings.specs.declared.change.Change.{Change}
+use Rattle.overlay.specs.declared.settings.change.Change.{Change}
 use Rattle.endpoint_core.specs.Decision.{Sent}
 use Rattle.endpoint_core.specs.Step.{Answer, Decided, Replied, State, answer, after}
 use Rattle.timeline.specs.declared.timeline.Cut.{Cut}

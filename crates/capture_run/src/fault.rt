@@ -4,7 +4,7 @@ ghost use Rattle.capture_run.specs.Fault.{of_changes, of_settings, of_timeline};
 ghost use Rattle.capture_run.specs.declared.fault.RunFault.TheVariants.{OutOfMemory};
 
 use config_text::SettingsFault;
-use pcap_io::{CaptureFault, RecordFault};
+use pcap::text::{CaptureFault, RecordFault};
 use std::alloc::AllocError;
 use thiserror::Error;
 use timeline::{Tap, TimelineFault};

@@ -3,8 +3,8 @@ ghost use Rattle.std.specs.Prelude.{◌≡◌, ℕ, List};
 ghost use Rattle.segment_set.specs.Segments.{All};
 ghost use Rattle.timeline.specs.Order.{IsRising};
 ghost use Rattle.timeline.specs.Timeline.{Timeline};
-ghost use Rattle.overlay_settings.specs.declared.change.Change.{Change as AChange};
-ghost use Rattle.endpoint_state.specs.Settings.{Settings as InForce};
+ghost use Rattle.overlay.specs.declared.settings.change.Change.{Change as AChange};
+ghost use Rattle.endpoint_core.specs.Settings.{Settings as InForce};
 ghost use Rattle.capture_run.specs.Among.{outputs_among};
 ghost use Rattle.capture_run.specs.Outputs.{outputs};
 

@@ -1,15 +1,15 @@
 //! What comes out of a run.
 ghost use Rattle.std.specs.Prelude.{◌≡◌, ◌≤◌, ◌++◌, [], length, map, unwrap_or, IfOk, OnOk};
-ghost use Rattle.pcap_io.specs.Record.{last_moment};
-ghost use Rattle.pcap_io.specs.Written.{whole_frame, written_record};
+ghost use Rattle.pcap.specs.Record.{last_moment};
+ghost use Rattle.pcap.specs.Written.{whole_frame, written_record};
 ghost use Rattle.filter_db.specs.declared.place.Place.TheVariants.{Local};
 ghost use Rattle.encapsulate.specs.Emission.{around, text};
 ghost use Rattle.capture_run.specs.Writing.{empty_outputs, put_at, seen, with_line, with_record};
 
 use endpoint_core::Head;
-use frame_view::BridgeFrame;
-use pcap_io::{put_header, put_record};
+use pcap::text::{put_header, put_record};
 use std::alloc::{AllocError, Global};
+use wire::ether::BridgeFrame;
 
 /// What comes out of a run.
 #[derive(Debug, Drop)]
@@ -24,7 +24,7 @@ pub struct Outputs {
 
 /// A capture without records.
 fn empty_capture(alloc: Global) -> Result<Vec<u8>, AllocError>
-    ensures { IfOk result (λ capture. capture.items ≡ Rattle.pcap_io.specs.Written.written_header) }
+    ensures { IfOk result (λ capture. capture.items ≡ Rattle.pcap.specs.Written.written_header) }
 {
     let mut capture = Vec::new(alloc);
     put_header(&mut capture)?;

@@ -6,7 +6,7 @@ ghost use Rattle.std.specs.List.{AllByRecursion};
 ghost use Rattle.timeline.specs.Events.{IsEventOf};
 ghost use Rattle.timeline.specs.Order.{IsRising};
 ghost use Rattle.endpoint_core.specs.Kept.{state_of};
-ghost use Rattle.endpoint_state.specs.Opened.{settings_told};
+ghost use Rattle.endpoint_core.specs.Opened.{settings_told};
 ghost use Rattle.capture_run.specs.Outputs.{outputs};
 ghost use Rattle.capture_run.specs.Run.{Gives, run};
 ghost use Rattle.capture_run.specs.Writing.{seen, with_cuts, with_events};
@@ -14,7 +14,7 @@ ghost use Rattle.capture_run.specs.Writing.{seen, with_cuts, with_events};
 use crate::fault::{RunFault, of_captures, of_changes, of_settings};
 use crate::outputs::Outputs;
 use crate::step::put_event;
-use decision_lines::{Desk, Line};
+use decision_lines::{Line, Scratch};
 use endpoint_core::Endpoint;
 use overlay_config::{Settings, TimedChange, changes_of, settings_of};
 use std::alloc::{AllocError, Global};
@@ -69,15 +69,15 @@ fn outputs_of(
 {
     let mut endpoint = Endpoint::open(alloc, settings)?;
     let mut outputs = Outputs::empty(alloc, ports)?;
-    let mut desk = Desk::new();
+    let mut scratch = Scratch::new();
     put_events(
         &mut outputs,
         &mut endpoint,
-        &mut desk,
+        &mut scratch,
         changes,
         timeline.events(),
     )?;
-    put_cuts(&mut outputs, &mut desk.line, timeline.cuts())?;
+    put_cuts(&mut outputs, &mut scratch.line, timeline.cuts())?;
     Ok(outputs)
 }
 
@@ -96,11 +96,11 @@ fn moments_of(alloc: Global, changes: &[TimedChange]) -> Result<Vec<u64>, AllocE
 fn put_events(
     outputs: &mut Outputs,
     endpoint: &mut Endpoint,
-    desk: &mut Desk,
+    scratch: &mut Scratch,
     changes: &[TimedChange],
     events: &[Event],
 ) -> Result<(), AllocError>
-    requires first { desk.old.number ≡ 0 }
+    requires first { scratch.old.number ≡ 0 }
     requires rising { IsRising (state_of endpoint.old).moment events.now }
     requires known { AllByRecursion
         (IsEventOf (length changes.now) (length (state_of endpoint.old).bridges.settings.ports.ports)) events.now }
@@ -108,8 +108,8 @@ fn put_events(
         ≡ with_events (map (λ c. c.change) changes.now) 0 (state_of endpoint.old) (seen outputs.old) events.now) }
 {
     for event in events {
-        desk.number.add_one();
-        put_event(outputs, endpoint, desk, changes, event)?;
+        scratch.number.add_one();
+        put_event(outputs, endpoint, scratch, changes, event)?;
     }
     Ok(())
 }

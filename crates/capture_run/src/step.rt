@@ -3,33 +3,33 @@ ghost use Rattle.std.specs.Prelude.{◌≡◌, ◌≤◌, ◌+◌, ◌++◌, Non
 ghost use Rattle.std.specs.List.{list_all};
 ghost use Rattle.timeline.specs.Events.{IsEventOf};
 ghost use Rattle.filter_db.specs.declared.place.Place.TheVariants.{Local, Remote};
-ghost use Rattle.endpoint_core.specs.Course.{CanLeave, IsShortFrame, IsThere, decision_of};
+ghost use Rattle.endpoint_core.specs.Forwarding.{CanLeave, IsShortFrame, IsThere, decision_of};
 ghost use Rattle.endpoint_core.specs.Event.{change_at, frame_at, packet_at};
 ghost use Rattle.endpoint_core.specs.Kept.{state_of};
 ghost use Rattle.endpoint_core.specs.Step.{Decided, answer, after, by_verdict, has_two_tunnels, sent_at};
 ghost use Rattle.endpoint_core.specs.Text.{outcomes_text};
-ghost use Rattle.endpoint_state.specs.Change.{named};
-ghost use Rattle.endpoint_state.specs.Settings.{segment_at};
-ghost use Rattle.endpoint_state.specs.Step.{can_leave};
-ghost use Rattle.pcap_io.specs.Record.{last_moment};
+ghost use Rattle.endpoint_core.specs.Change.{named};
+ghost use Rattle.endpoint_core.specs.Settings.{segment_at};
+ghost use Rattle.endpoint_core.specs.StateStep.{can_leave};
+ghost use Rattle.pcap.specs.Record.{last_moment};
 ghost use Rattle.decision_lines.specs.Lines.{answer_text, line};
 ghost use Rattle.capture_run.specs.Outputs.{event_of};
 ghost use Rattle.capture_run.specs.Writing.{seen, with_all_sent, with_event, with_input, with_sent};
 
 use crate::outputs::Outputs;
-use decision_lines::{Desk, Line};
-use endpoint_core::{Came, Course, Endpoint, Head};
+use decision_lines::{Line, Scratch};
+use endpoint_core::{Arrival, Endpoint, Forwarding, Head};
 use filter_db::Place;
-use ip_udp_view::{Addr, Tunnel};
 use overlay_config::{Change, TimedChange};
 use std::alloc::AllocError;
 use timeline::{Captured, Event, Happening, Tap};
+use wire::ip_udp::{Addr, Tunnel};
 
 /// Puts what leaves of a frame at a local port.
 fn put_local(
     outputs: &mut Outputs,
     endpoint: &Endpoint,
-    came: &Came,
+    came: &Arrival,
     port: u8,
     moment: u64,
 ) -> Result<(), AllocError>
@@ -49,7 +49,7 @@ fn put_remote(
     outputs: &mut Outputs,
     head: &mut Head,
     endpoint: &Endpoint,
-    came: &Came,
+    came: &Arrival,
     kind: Tunnel,
     addr: Addr,
     moment: u64,
@@ -72,7 +72,7 @@ fn put_sent(
     outputs: &mut Outputs,
     head: &mut Head,
     endpoint: &Endpoint,
-    came: &Came,
+    came: &Arrival,
     place: Place,
     moment: u64,
 ) -> Result<(), AllocError>
@@ -96,7 +96,7 @@ fn put_outcomes(
     line: &mut Line,
     head: &mut Head,
     endpoint: &Endpoint,
-    came: &Came,
+    came: &Arrival,
     places: &[Place],
     moment: u64,
 ) -> Result<(), AllocError>
@@ -128,27 +128,27 @@ fn put_outcomes(
 fn put_leaving(
     outputs: &mut Outputs,
     endpoint: &Endpoint,
-    desk: &mut Desk,
+    scratch: &mut Scratch,
     event: &Event,
-    came: &Came,
+    came: &Arrival,
 ) -> Result<(), AllocError>
     requires moment { event.now.moment ≤ last_moment }
     requires there { IsSome (segment_at (state_of endpoint.now).bridges.settings came.now.vid) }
     requires short { length came.now.frame.body ≤ 65549 }
-    requires leave { IsTrue (list_all (can_leave (state_of endpoint.now).bridges.settings came.now.vid) desk.old.places.items) }
+    requires leave { IsTrue (list_all (can_leave (state_of endpoint.now).bridges.settings came.now.vid) scratch.old.places.items) }
     ensures sent { let S = (state_of endpoint.now).bridges.settings in OnOk result
         (seen outputs.new ≡ with_all_sent event.now.moment (seen outputs.old)
-        (map (sent_at S came.now.vid came.now.frame) desk.old.places.items)) }
-    ensures line { OnOk result (desk.new.line ≡ line desk.old.number event.now
-        (answer_text None (Decided (by_verdict (state_of endpoint.now).bridges.settings came.now (Ok desk.old.places.items))))) }
-    ensures number { desk.new.number ≡ desk.old.number }
+        (map (sent_at S came.now.vid came.now.frame) scratch.old.places.items)) }
+    ensures line { OnOk result (scratch.new.line ≡ line scratch.old.number event.now
+        (answer_text None (Decided (by_verdict (state_of endpoint.now).bridges.settings came.now (Ok scratch.old.places.items))))) }
+    ensures number { scratch.new.number ≡ scratch.old.number }
 {
-    let Desk {
+    let Scratch {
         number,
         places,
         head,
         line,
-    } = desk;
+    } = scratch;
     line.begin(number, event, Some(came.segment()));
     put_outcomes(
         outputs,
@@ -164,54 +164,56 @@ fn put_leaving(
 }
 
 /// Puts what comes of a frame or a packet that the endpoint took just now: what leaves, and its decision line.
-fn put_course(
+fn put_forwarding(
     outputs: &mut Outputs,
     endpoint: &Endpoint,
-    desk: &mut Desk,
+    scratch: &mut Scratch,
     event: &Event,
-    course: &Course,
+    forwarding: &Forwarding,
 ) -> Result<(), AllocError>
     requires moment { event.now.moment ≤ last_moment }
-    requires there { IsThere (state_of endpoint.now).bridges.settings course.now }
-    requires short { IsShortFrame course.now }
-    requires leave { CanLeave (state_of endpoint.now).bridges.settings course.now desk.old.places.items }
+    requires there { IsThere (state_of endpoint.now).bridges.settings forwarding.now }
+    requires short { IsShortFrame forwarding.now }
+    requires leave { CanLeave (state_of endpoint.now).bridges.settings forwarding.now scratch.old.places.items }
     ensures outputs { let S = (state_of endpoint.now).bridges.settings in OnOk result (seen outputs.new
-        ≡ with_input desk.old.number None (seen outputs.old) event.now (Decided (decision_of S course.now desk.old.places.items))) }
-    ensures number { desk.new.number ≡ desk.old.number }
+        ≡ with_input scratch.old.number None (seen outputs.old) event.now
+        (Decided (decision_of S forwarding.now scratch.old.places.items))) }
+    ensures number { scratch.new.number ≡ scratch.old.number }
 {
-    match course {
-        Err(refused) => desk.line.write_drop(&desk.number, event, *refused),
-        Ok(came) => put_leaving(outputs, endpoint, desk, event, came)?,
+    match forwarding {
+        Err(refused) => scratch.line.write_drop(&scratch.number, event, *refused),
+        Ok(came) => put_leaving(outputs, endpoint, scratch, event, came)?,
     }
-    outputs.put_line(desk.line.text())
+    outputs.put_line(scratch.line.text())
 }
 
 /// Puts a change to the endpoint, and what comes of it to the outputs.
 fn put_change(
     outputs: &mut Outputs,
     endpoint: &mut Endpoint,
-    desk: &mut Desk,
+    scratch: &mut Scratch,
     event: &Event,
     change: Change,
 ) -> Result<(), AllocError>
     requires { (state_of endpoint.old).moment ≤ event.now.moment }
     ensures state { state_of endpoint.new ≡ after (state_of endpoint.old) (change_at event.now.moment change) }
-    ensures outputs { OnOk result (seen outputs.new ≡ with_input desk.old.number (named change) (seen outputs.old) event.now
+    ensures outputs { OnOk result (seen outputs.new ≡ with_input scratch.old.number (named change) (seen outputs.old) event.now
         (answer (state_of endpoint.old) (change_at event.now.moment change))) }
-    ensures number { desk.new.number ≡ desk.old.number }
+    ensures number { scratch.new.number ≡ scratch.old.number }
 {
     let asked = change;
     let reply = endpoint.change(event.moment, asked);
-    desk.line
-        .write_reply(&desk.number, event, change.vid(), reply);
-    outputs.put_line(desk.line.text())
+    scratch
+        .line
+        .write_reply(&scratch.number, event, change.vid(), reply);
+    outputs.put_line(scratch.line.text())
 }
 
 /// Puts a frame at a local port to the endpoint, and what comes of it to the outputs.
 fn put_frame(
     outputs: &mut Outputs,
     endpoint: &mut Endpoint,
-    desk: &mut Desk,
+    scratch: &mut Scratch,
     event: &Event,
     port: u8,
     frame: &Captured,
@@ -222,25 +224,25 @@ fn put_frame(
     requires high { port ≤ length (state_of endpoint.old).bridges.settings.ports.ports }
     ensures state { state_of endpoint.new
         ≡ after (state_of endpoint.old) (frame_at event.now.moment port frame.now.original frame.now.octets) }
-    ensures outputs { OnOk result (seen outputs.new ≡ with_input desk.old.number None (seen outputs.old) event.now
+    ensures outputs { OnOk result (seen outputs.new ≡ with_input scratch.old.number None (seen outputs.old) event.now
         (answer (state_of endpoint.old) (frame_at event.now.moment port frame.now.original frame.now.octets))) }
-    ensures number { desk.new.number ≡ desk.old.number }
+    ensures number { scratch.new.number ≡ scratch.old.number }
 {
-    let course = endpoint.take_frame(
+    let forwarding = endpoint.take_frame(
         event.moment,
         port,
         frame.original,
         frame.octets,
-        &mut desk.places,
+        &mut scratch.places,
     );
-    put_course(outputs, endpoint, desk, event, &course)
+    put_forwarding(outputs, endpoint, scratch, event, &forwarding)
 }
 
 /// Puts a packet from the underlay to the endpoint, and what comes of it to the outputs.
 fn put_packet(
     outputs: &mut Outputs,
     endpoint: &mut Endpoint,
-    desk: &mut Desk,
+    scratch: &mut Scratch,
     event: &Event,
     packet: &Captured,
 ) -> Result<(), AllocError>
@@ -248,24 +250,24 @@ fn put_packet(
     requires moment { event.now.moment ≤ last_moment }
     ensures state { state_of endpoint.new
         ≡ after (state_of endpoint.old) (packet_at event.now.moment packet.now.original packet.now.octets) }
-    ensures outputs { OnOk result (seen outputs.new ≡ with_input desk.old.number None (seen outputs.old) event.now
+    ensures outputs { OnOk result (seen outputs.new ≡ with_input scratch.old.number None (seen outputs.old) event.now
         (answer (state_of endpoint.old) (packet_at event.now.moment packet.now.original packet.now.octets))) }
-    ensures number { desk.new.number ≡ desk.old.number }
+    ensures number { scratch.new.number ≡ scratch.old.number }
 {
-    let course = endpoint.take_packet(
+    let forwarding = endpoint.take_packet(
         event.moment,
         packet.original,
         packet.octets,
-        &mut desk.places,
+        &mut scratch.places,
     );
-    put_course(outputs, endpoint, desk, event, &course)
+    put_forwarding(outputs, endpoint, scratch, event, &forwarding)
 }
 
 /// Puts an event to the endpoint, and what comes of it to the outputs.
 pub(crate) fn put_event(
     outputs: &mut Outputs,
     endpoint: &mut Endpoint,
-    desk: &mut Desk,
+    scratch: &mut Scratch,
     changes: &[TimedChange],
     event: &Event,
 ) -> Result<(), AllocError>
@@ -273,20 +275,20 @@ pub(crate) fn put_event(
     requires known { IsEventOf (length changes.now) (length (state_of endpoint.old).bridges.settings.ports.ports) event.now }
     ensures state { state_of endpoint.new ≡ after (state_of endpoint.old) (event_of (map (λ c. c.change) changes.now) event.now) }
     ensures outputs { OnOk result (seen outputs.new
-        ≡ with_event (map (λ c. c.change) changes.now) desk.old.number (seen outputs.old) event.now
+        ≡ with_event (map (λ c. c.change) changes.now) scratch.old.number (seen outputs.old) event.now
         (answer (state_of endpoint.old) (event_of (map (λ c. c.change) changes.now) event.now))) }
-    ensures number { desk.new.number ≡ desk.old.number }
+    ensures number { scratch.new.number ≡ scratch.old.number }
 {
     match &event.happening {
         Happening::Change(index) => {
             let change = changes[*index].change;
-            put_change(outputs, endpoint, desk, event, change)
+            put_change(outputs, endpoint, scratch, event, change)
         }
         Happening::Record(Tap::Port(port), frame) => {
-            put_frame(outputs, endpoint, desk, event, *port, frame)
+            put_frame(outputs, endpoint, scratch, event, *port, frame)
         }
         Happening::Record(Tap::Underlay, packet) => {
-            put_packet(outputs, endpoint, desk, event, packet)
+            put_packet(outputs, endpoint, scratch, event, packet)
         }
     }
 }

@@ -4,7 +4,7 @@ use Rattle.std.specs.Prelude.{max, nat_lt}
 use Rattle.std.specs.List.{count_by}
 use Rattle.std.proofs.lemmas.List.Sums.{count_by-le-length, sum_by-append}
 use Rattle.std.proofs.Common.{cond}
-use Rattle.pcap_io.specs.Record.{Record}
+use Rattle.pcap.specs.Record.{Record}
 use Rattle.timeline.specs.declared.source.Tap.{Tap}
 use Rattle.capture_survey.specs.Tally.{HasRoom, falls_behind, falls_in, first_of, is_below, is_cut_short, is_left_to_card, is_too_long, greatest_behind, last_of, longest_at, one_if, span_of, tally_of}
 use Rattle.capture_survey.specs.declared.tally.Span.{Span}

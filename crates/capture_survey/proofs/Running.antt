@@ -1,19 +1,19 @@
 -- The records of a source, one after another.
 use Rattle.std.proofs.Common.{◌≡◌, ◌≢◌, ◌⊎◌, ◌∙◌, refl, sym, ap, subst, ℕ, ◌+◌, ◌*◌, ◌≤◌, ◌<◌, ◌^◌, List, [], ◌∷◌, ◌++◌, length, length-append, arith, Some, None, Result, Ok, Err}
-use Rattle.pcap_io.specs.Capture.{opened}
-use Rattle.pcap_io.specs.Next.{End, Whole, Cut, Faulty}
-use Rattle.pcap_io.specs.Record.{Record}
-use Rattle.pcap_io.specs.declared.record.RecordFault.{RecordFault}
-use Rattle.pcap_io.specs.declared.record.RecordFault.TheVariants.{BadFraction, TooLarge}
-use Rattle.pcap_stream.specs.Counts.{GoesOnBy}
-use Rattle.pcap_stream.specs.Fault.{record_fault}
-use Rattle.pcap_stream.specs.InTurn.{IsReading}
-use Rattle.pcap_stream.specs.Source.{Standing, Stream, New, Open, Ended, Failed, IsFilled, IsFilledFrom, MatchRead, ReadsNext, after_end, answer, lent, most_left}
-use Rattle.pcap_stream.specs.Supply.{GivesUp, Supply}
-use Rattle.pcap_stream.specs.declared.fault.SourceFault.{SourceFault}
-use Rattle.pcap_stream.specs.declared.fault.SourceFault.TheVariants as source
-use Rattle.pcap_stream.proofs.Runs.{ends, one_more}
-use Rattle.pcap_stream.proofs.Refusals.{faulty_end, lends_none}
+use Rattle.pcap.specs.Capture.{opened}
+use Rattle.pcap.specs.Next.{End, Whole, Cut, Faulty}
+use Rattle.pcap.specs.Record.{Record}
+use Rattle.pcap.specs.declared.text.record.RecordFault.{RecordFault}
+use Rattle.pcap.specs.declared.text.record.RecordFault.TheVariants.{BadFraction, TooLarge}
+use Rattle.pcap.specs.Counts.{GoesOnBy}
+use Rattle.pcap.specs.Fault.{record_fault}
+use Rattle.pcap.specs.InTurn.{IsReading}
+use Rattle.pcap.specs.Source.{Standing, Stream, New, Open, Ended, Failed, IsFilled, IsFilledFrom, MatchRead, ReadsNext, after_end, answer, lent, most_left}
+use Rattle.pcap.specs.Supply.{GivesUp, Supply}
+use Rattle.pcap.specs.declared.stream.fault.SourceFault.{SourceFault}
+use Rattle.pcap.specs.declared.stream.fault.SourceFault.TheVariants as source
+use Rattle.pcap.proofs.Runs.{ends, one_more}
+use Rattle.pcap.proofs.Refusals.{faulty_end, lends_none}
 use Rattle.capture_survey.proofs.Counting.{has_room}
 use Rattle.timeline.specs.declared.source.Tap.{Tap}
 use Rattle.capture_survey.specs.Survey.{IsCounted, IsOpen, ReadsAll, ReadsWith, source_fault}

@@ -1,22 +1,22 @@
 -- What is found in a capture, by its header and its records.
 use Rattle.std.proofs.Common.{◌≡◌, ◌≢◌, ◌⊎◌, ◌∙◌, refl, sym, ap, subst, ℕ, List, drop, Bool, true, false, Option, Some, None, Result, Ok, Err}
-use Rattle.pcap_io.specs.Capture.{opened, opened_by}
-use Rattle.pcap_io.specs.Header.{style_of}
-use Rattle.pcap_io.specs.Next.{End, Whole, Cut, Faulty}
-use Rattle.pcap_io.specs.Reading.{Reading, records}
-use Rattle.pcap_io.specs.Record.{Record}
-use Rattle.pcap_io.specs.declared.header.CaptureFault.{CaptureFault}
-use Rattle.pcap_io.specs.declared.header.CaptureFault.TheVariants as capture
-use Rattle.pcap_io.specs.declared.record.RecordFault.{RecordFault}
-use Rattle.pcap_io.specs.declared.style.Style.{Style}
-use Rattle.pcap_stream.specs.Counts.{GoesOnBy}
-use Rattle.pcap_stream.specs.Source.{Standing, Stream, Open, IsOpened, MatchRead, ReadsHeader, after_end, after_header, answer, ends_cut, style_at}
-use Rattle.pcap_stream.specs.Supply.{GivesUp, Supply}
-use Rattle.pcap_stream.specs.declared.fault.SourceFault.{SourceFault}
-use Rattle.pcap_stream.specs.declared.fault.SourceFault.TheVariants as source
-use Rattle.pcap_stream.proofs.Runs.{begins}
-use Rattle.pcap_stream.proofs.Refusals.{is_refused, no_answer, told_style}
-use Rattle.pcap_stream.specs.Fault.{capture_fault}
+use Rattle.pcap.specs.Capture.{opened, opened_by}
+use Rattle.pcap.specs.Header.{style_of}
+use Rattle.pcap.specs.Next.{End, Whole, Cut, Faulty}
+use Rattle.pcap.specs.Reading.{Reading, records}
+use Rattle.pcap.specs.Record.{Record}
+use Rattle.pcap.specs.declared.text.header.CaptureFault.{CaptureFault}
+use Rattle.pcap.specs.declared.text.header.CaptureFault.TheVariants as capture
+use Rattle.pcap.specs.declared.text.record.RecordFault.{RecordFault}
+use Rattle.pcap.specs.declared.text.style.Style.{Style}
+use Rattle.pcap.specs.Counts.{GoesOnBy}
+use Rattle.pcap.specs.Source.{Standing, Stream, Open, IsOpened, MatchRead, ReadsHeader, after_end, after_header, answer, ends_cut, style_at}
+use Rattle.pcap.specs.Supply.{GivesUp, Supply}
+use Rattle.pcap.specs.declared.stream.fault.SourceFault.{SourceFault}
+use Rattle.pcap.specs.declared.stream.fault.SourceFault.TheVariants as source
+use Rattle.pcap.proofs.Runs.{begins}
+use Rattle.pcap.proofs.Refusals.{is_refused, no_answer, told_style}
+use Rattle.pcap.specs.Fault.{capture_fault}
 use Rattle.timeline.specs.declared.source.Tap.{Tap}
 use Rattle.capture_survey.specs.Survey.{Begins, Gives, IsCounted, IsOpen, ReadsAll, ReadsWith, source_fault, surveyed, surveyed_by, surveyed_to}
 use Rattle.capture_survey.specs.declared.fault.SurveyFault.{SurveyFault}

@@ -2,12 +2,12 @@
 use Rattle.std.specs.Prelude.{ℕ, ◌==◌, ◌^◌, ◌*◌, ◌-◌, ◌/◌, ◌%◌, if◌then◌else◌, nat_le, nat_lt, ◌&&◌}
 use Rattle.std.specs.Prelude.{Bool, true, false, List, [], ◌++◌, codes, decimal, Option, Some, None}
 use Rattle.std.specs.Fmt.{format_spec, padded_integral}
-use Rattle.pcap_io.specs.Style.{second}
-use Rattle.pcap_io.specs.declared.style.Order.{Order}
-use Rattle.pcap_io.specs.declared.style.Order.TheVariants.{Big, Little}
-use Rattle.pcap_io.specs.declared.style.Precision.{Precision}
-use Rattle.pcap_io.specs.declared.style.Precision.TheVariants.{Micro, Nano}
-use Rattle.pcap_io.specs.declared.style.Style.{Style}
+use Rattle.pcap.specs.Style.{second}
+use Rattle.pcap.specs.declared.text.style.Order.{Order}
+use Rattle.pcap.specs.declared.text.style.Order.TheVariants.{Big, Little}
+use Rattle.pcap.specs.declared.text.style.Precision.{Precision}
+use Rattle.pcap.specs.declared.text.style.Precision.TheVariants.{Micro, Nano}
+use Rattle.pcap.specs.declared.text.style.Style.{Style}
 use Rattle.timeline.specs.Words.{tap_word}
 use Rattle.timeline.specs.declared.source.Tap.{Tap}
 use Rattle.timeline.specs.declared.source.Tap.TheVariants.{Port, Underlay}

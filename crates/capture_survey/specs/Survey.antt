@@ -3,21 +3,21 @@
 --     Gives      an answer is that, unless a read failed
 --     ReadsWith      no read failed, or the source gave up
 use Rattle.std.specs.Prelude.{◌≡◌, ◌≢◌, ⊤, ℕ, ◌+◌, List, [], length, drop, Bool, true, false, Result, Ok, Err}
-use Rattle.pcap_io.specs.Capture.{opened}
-use Rattle.pcap_io.specs.Header.{style_of}
-use Rattle.pcap_io.specs.Next.{End, Whole, Cut, Faulty}
-use Rattle.pcap_io.specs.Reading.{Reading, records}
-use Rattle.pcap_io.specs.Record.{Record}
-use Rattle.pcap_io.specs.declared.header.CaptureFault.{CaptureFault}
-use Rattle.pcap_io.specs.declared.header.CaptureFault.TheVariants as capture
-use Rattle.pcap_io.specs.declared.record.RecordFault.{RecordFault}
-use Rattle.pcap_io.specs.declared.record.RecordFault.TheVariants as record_
-use Rattle.pcap_io.specs.declared.style.Style.{Style}
-use Rattle.pcap_stream.specs.InTurn.{IsReading}
-use Rattle.pcap_stream.specs.Source.{Standing, Stream, New, Open, Ended, Failed, after_end}
-use Rattle.pcap_stream.specs.Supply.{GivesUp, Supply}
-use Rattle.pcap_stream.specs.declared.fault.SourceFault.{SourceFault}
-use Rattle.pcap_stream.specs.declared.fault.SourceFault.TheVariants as source
+use Rattle.pcap.specs.Capture.{opened}
+use Rattle.pcap.specs.Header.{style_of}
+use Rattle.pcap.specs.Next.{End, Whole, Cut, Faulty}
+use Rattle.pcap.specs.Reading.{Reading, records}
+use Rattle.pcap.specs.Record.{Record}
+use Rattle.pcap.specs.declared.text.header.CaptureFault.{CaptureFault}
+use Rattle.pcap.specs.declared.text.header.CaptureFault.TheVariants as capture
+use Rattle.pcap.specs.declared.text.record.RecordFault.{RecordFault}
+use Rattle.pcap.specs.declared.text.record.RecordFault.TheVariants as record_
+use Rattle.pcap.specs.declared.text.style.Style.{Style}
+use Rattle.pcap.specs.InTurn.{IsReading}
+use Rattle.pcap.specs.Source.{Standing, Stream, New, Open, Ended, Failed, after_end}
+use Rattle.pcap.specs.Supply.{GivesUp, Supply}
+use Rattle.pcap.specs.declared.stream.fault.SourceFault.{SourceFault}
+use Rattle.pcap.specs.declared.stream.fault.SourceFault.TheVariants as source
 use Rattle.timeline.specs.declared.source.Tap.{Tap}
 use Rattle.capture_survey.specs.Tally.{tally_of}
 use Rattle.capture_survey.specs.declared.fault.SurveyFault.{SurveyFault}

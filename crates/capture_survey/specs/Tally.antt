@@ -3,7 +3,7 @@ use Rattle.std.specs.Prelude.{ℕ, ◌+◌, ◌<◌, ◌≤◌, ◌^◌, nat_lt,
 use Rattle.std.specs.List.{count_by}
 use Rattle.std.specs.Option.{option_map_or}
 use Rattle.decapsulate.specs.Card as card
-use Rattle.pcap_io.specs.Record.{Record}
+use Rattle.pcap.specs.Record.{Record}
 use Rattle.timeline.specs.declared.source.Tap.{Tap}
 use Rattle.timeline.specs.declared.source.Tap.TheVariants.{Port, Underlay}
 use Rattle.capture_survey.specs.declared.tally.Span.{Span}

@@ -2,8 +2,8 @@
 ghost use Rattle.std.specs.Prelude.{◌≡◌};
 ghost use Rattle.capture_survey.specs.Survey.{source_fault};
 
-use pcap_io::{CaptureFault, RecordFault};
-use pcap_stream::SourceFault;
+use pcap::stream::SourceFault;
+use pcap::text::{CaptureFault, RecordFault};
 use thiserror::Error;
 
 /// Why a capture isn't surveyed to its end: what a run would stop at. It prints as the run's fault does behind the tap.

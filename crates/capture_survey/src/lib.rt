@@ -1,7 +1,7 @@
 //! What is in one capture, before it is run: what it is, how many records it has, from when to when, and what about them may be
 //! unmeant.
 //!
-//! Use first: [`survey_capture`] reads the records of a capture one after another (classic pcap, by `pcap_stream`) in the
+//! Use first: [`survey_capture`] reads the records of a capture one after another (classic pcap, by `pcap::stream`) in the
 //! memory of one record, and answers a [`Survey`], or the [`SurveyFault`] that a run would stop at. A [`Report`] prints what
 //! was found. [`Echoes`] prints what is found of several captures together, and [`LeftOut`] one line of a report by itself.
 //!

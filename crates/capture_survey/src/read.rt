@@ -1,12 +1,12 @@
 //! The records of a capture, counted one after another.
 ghost use Rattle.std.specs.Prelude.{◌≡◌, ◌<◌, ◌^◌, ℕ, List, []};
-ghost use Rattle.pcap_stream.specs.InTurn.{IsReading};
-ghost use Rattle.pcap_stream.specs.Source.{most_left};
+ghost use Rattle.pcap.specs.InTurn.{IsReading};
+ghost use Rattle.pcap.specs.Source.{most_left};
 ghost use Rattle.capture_survey.specs.Survey.{IsOpen, ReadsAll, ReadsWith};
 
 use crate::fault::{SurveyFault, source_fault};
 use crate::tally::Tally;
-use pcap_stream::{Input, Source};
+use pcap::stream::{Input, Source};
 use timeline::Tap;
 
 /// Counts the records of a source that was opened, the capture of a tap, to its end.

@@ -5,7 +5,7 @@ ghost use Rattle.capture_survey.specs.Report.{note_words, notes_text, report_tex
 
 use crate::survey::Survey;
 use crate::tally::Span;
-use pcap_io::{Order, Precision, Style};
+use pcap::text::{Order, Precision, Style};
 use std::fmt;
 use timeline::Tap;
 

@@ -1,13 +1,13 @@
 //! What is in a capture.
 ghost use Rattle.std.specs.Prelude.{◌≡◌, ◌≤◌, ◌<◌, ◌^◌, ℕ, List, Some, IfOk};
-ghost use Rattle.pcap_stream.specs.Source.{New, most_left};
+ghost use Rattle.pcap.specs.Source.{New, most_left};
 ghost use Rattle.capture_survey.specs.Survey.{Begins, Gives, IsOpen, ReadsWith, surveyed};
 
 use crate::fault::{SurveyFault, source_fault};
 use crate::read::read_records;
 use crate::tally::Tally;
-use pcap_io::Style;
-use pcap_stream::{Input, Source};
+use pcap::stream::{Input, Source};
+use pcap::text::Style;
 use timeline::Tap;
 
 /// What is in a capture.

@@ -1,11 +1,11 @@
 //! What is counted of the records of a capture.
 ghost use Rattle.std.specs.Prelude.{◌≡◌, ◌++◌, ◌∷◌, [], List};
-ghost use Rattle.pcap_io.specs.Record.{Record as ARecord};
+ghost use Rattle.pcap.specs.Record.{Record as ARecord};
 ghost use Rattle.timeline.specs.declared.source.Tap.{Tap as ATap};
 ghost use Rattle.capture_survey.specs.Tally.{HasRoom, first_of, is_below, is_cut_short, is_left_to_card};
 ghost use Rattle.capture_survey.specs.Tally.{is_too_long, last_of, longest_at, one_if, tally_of};
 
-use pcap_io::Record;
+use pcap::text::Record;
 use timeline::Tap;
 
 /// The octets of a frame at a local port at most, in a run.

@@ -1,11 +1,2 @@
-mod block_tests;
-mod device_tests;
-mod kind_tests;
-mod longest_tests;
-mod peek_tests;
-mod reading_tests;
-mod sink_tests;
-mod source_tests;
-mod survey_tests;
-mod timeline_tests;
-mod writing_tests;
+mod captures;
+mod pcapng;

@@ -3,30 +3,30 @@ use Rattle.std.proofs.Common.{◌≡◌, refl, ℕ, Bool, true, false, not, ◌&
 use Rattle.std.specs.Prelude.{is_some, min, nat_lt, nat_le, if◌then◌else◌}
 use Rattle.std.specs.Option.{option_and_then, option_map, option_map_or}
 use Rattle.std.proofs.lemmas.Bool.{false≢true}
-use Rattle.frame_view.specs.Address.{is_group as is_group_mac}
-use Rattle.frame_view.specs.First.{first}
-use Rattle.ip_udp_view.specs.Addr.{is_group, is_usable}
-use Rattle.ip_udp_view.specs.declared.addr.Addr.{Addr}
-use Rattle.ip_udp_view.specs.declared.addr.Tunnel.{Tunnel}
+use Rattle.wire.specs.Address.{is_group as is_group_mac}
+use Rattle.wire.specs.First.{first}
+use Rattle.wire.specs.Addr.{is_group, is_usable}
+use Rattle.wire.specs.declared.ip_udp.addr.Addr.{Addr}
+use Rattle.wire.specs.declared.ip_udp.addr.Tunnel.{Tunnel}
 use Rattle.filter_db.specs.Standing.{segment_count, sum_of_limits}
 use Rattle.filter_db.specs.Table.{Table, is_full}
-use Rattle.flood_lists.specs.Flood.{Entries, add_faults, has_family, holds, is_own}
-use Rattle.flood_lists.specs.declared.own.Own.{Own as OwnAddrs}
-use Rattle.flood_lists.specs.declared.fault.FloodFault.TheVariants as flood
-use Rattle.vlan_ports.specs.Ports.{is_port}
-use Rattle.underlay.specs.Overlay.{are_free}
-use Rattle.underlay.specs.Settings.{own}
-use Rattle.overlay_settings.specs.declared.change.Change.{Change}
-use Rattle.overlay_settings.specs.declared.change.Change.TheVariants.{AddFlood, RemoveFlood, Fix, Unfix, SetAgeing, SetLearning, SetMember, PortUp, PortDown, Flush, AddSegment, RemoveSegment, SetLimit}
-use Rattle.overlay_settings.specs.declared.change.Target.{Target}
-use Rattle.overlay_settings.specs.declared.change.Target.TheVariants as target
-use Rattle.endpoint_state.specs.Change as change
-use Rattle.endpoint_state.specs.Change.{is_ageing, is_limit, is_too_much, are_vnis}
-use Rattle.endpoint_state.specs.Fault.{of_flood}
-use Rattle.endpoint_state.specs.Settings.{Settings, SegmentSettings, kind_named, segment_at, tables_asked}
-use Rattle.endpoint_state.specs.State.{State, fault}
-use Rattle.endpoint_state.specs.declared.fault.ChangeFault.{ChangeFault}
-use Rattle.endpoint_state.specs.declared.fault.ChangeFault.TheVariants.{NoPort, AlreadyThere, NotThere, FloodFull, TableFull, GroupAddress, OutOfRange, NoFamily, OwnAddress, SegmentThere, PoolFull, SegmentsFull}
+use Rattle.overlay.specs.Flood.{Entries, add_faults, has_family, holds, is_own}
+use Rattle.overlay.specs.declared.flood.own.Own.{Own as OwnAddrs}
+use Rattle.overlay.specs.declared.flood.fault.FloodFault.TheVariants as flood
+use Rattle.overlay.specs.Ports.{is_port}
+use Rattle.overlay.specs.Overlay.{are_free}
+use Rattle.overlay.specs.UnderlaySettings.{own}
+use Rattle.overlay.specs.declared.settings.change.Change.{Change}
+use Rattle.overlay.specs.declared.settings.change.Change.TheVariants.{AddFlood, RemoveFlood, Fix, Unfix, SetAgeing, SetLearning, SetMember, PortUp, PortDown, Flush, AddSegment, RemoveSegment, SetLimit}
+use Rattle.overlay.specs.declared.settings.change.Target.{Target}
+use Rattle.overlay.specs.declared.settings.change.Target.TheVariants as target
+use Rattle.endpoint_core.specs.Change as change
+use Rattle.endpoint_core.specs.Change.{is_ageing, is_limit, is_too_much, are_vnis}
+use Rattle.endpoint_core.specs.Fault.{of_flood}
+use Rattle.endpoint_core.specs.Settings.{Settings, SegmentSettings, kind_named, segment_at, tables_asked}
+use Rattle.endpoint_core.specs.State.{State, fault}
+use Rattle.endpoint_core.specs.declared.state.fault.ChangeFault.{ChangeFault}
+use Rattle.endpoint_core.specs.declared.state.fault.ChangeFault.TheVariants.{NoPort, AlreadyThere, NotThere, FloodFull, TableFull, GroupAddress, OutOfRange, NoFamily, OwnAddress, SegmentThere, PoolFull, SegmentsFull}
 use Rattle.change_story.specs.Checks.{AreVnis, checks, refusal, segment_check, tunnel_check, flood_checks, leaving_checks, remote_checks, target_checks, fix_checks, room_check}
 use Rattle.change_story.specs.Segment.{Segment, segment_of}
 use Rattle.change_story.specs.declared.check.Check.{Check}

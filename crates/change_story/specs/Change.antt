@@ -1,23 +1,23 @@
 -- How a change is printed: its kind, and its keys with their values, as a changes file has them. It states no standard.
 use Rattle.std.specs.Prelude.{ℕ, if◌then◌else◌, Bool, true, false, List, [], ◌∷◌, ◌++◌, slice_get, codes, decimal, Option, Some, None}
-use Rattle.ip_udp_view.specs.declared.addr.Tunnel.{Tunnel}
-use Rattle.ip_udp_view.specs.declared.addr.Tunnel.TheVariants.{Vxlan, Geneve}
-use Rattle.vlan_ports.specs.declared.member.Egress.{Egress}
-use Rattle.vlan_ports.specs.declared.member.Egress.TheVariants.{Tagged, Untagged}
-use Rattle.underlay.specs.Tunnels.{of_kind}
-use Rattle.underlay.specs.declared.segment.PeerRule.{PeerRule}
-use Rattle.underlay.specs.declared.segment.PeerRule.TheVariants.{Any, Listed}
-use Rattle.underlay.specs.declared.segment.TagRule.{TagRule}
-use Rattle.underlay.specs.declared.segment.TagRule.TheVariants.{Drop, Pass, Never}
-use Rattle.underlay.specs.declared.tunnels.SegmentTunnel.{SegmentTunnel}
-use Rattle.overlay_settings.specs.declared.change.Change.{Change}
-use Rattle.overlay_settings.specs.declared.change.Change.TheVariants.{AddFlood, RemoveFlood, Fix, Unfix, SetAgeing}
-use Rattle.overlay_settings.specs.declared.change.Change.TheVariants.{SetLearning, SetMember, PortUp, PortDown}
-use Rattle.overlay_settings.specs.declared.change.Change.TheVariants.{Flush, AddSegment, RemoveSegment, SetLimit}
-use Rattle.overlay_settings.specs.declared.change.Target.{Target}
-use Rattle.overlay_settings.specs.declared.change.Target.TheVariants as target
+use Rattle.wire.specs.declared.ip_udp.addr.Tunnel.{Tunnel}
+use Rattle.wire.specs.declared.ip_udp.addr.Tunnel.TheVariants.{Vxlan, Geneve}
+use Rattle.overlay.specs.declared.ports.member.Egress.{Egress}
+use Rattle.overlay.specs.declared.ports.member.Egress.TheVariants.{Tagged, Untagged}
+use Rattle.overlay.specs.Tunnels.{of_kind}
+use Rattle.overlay.specs.declared.underlay.segment.PeerRule.{PeerRule}
+use Rattle.overlay.specs.declared.underlay.segment.PeerRule.TheVariants.{Any, Listed}
+use Rattle.overlay.specs.declared.underlay.segment.TagRule.{TagRule}
+use Rattle.overlay.specs.declared.underlay.segment.TagRule.TheVariants.{Drop, Pass, Never}
+use Rattle.overlay.specs.declared.underlay.tunnels.SegmentTunnel.{SegmentTunnel}
+use Rattle.overlay.specs.declared.settings.change.Change.{Change}
+use Rattle.overlay.specs.declared.settings.change.Change.TheVariants.{AddFlood, RemoveFlood, Fix, Unfix, SetAgeing}
+use Rattle.overlay.specs.declared.settings.change.Change.TheVariants.{SetLearning, SetMember, PortUp, PortDown}
+use Rattle.overlay.specs.declared.settings.change.Change.TheVariants.{Flush, AddSegment, RemoveSegment, SetLimit}
+use Rattle.overlay.specs.declared.settings.change.Target.{Target}
+use Rattle.overlay.specs.declared.settings.change.Target.TheVariants as target
 use Rattle.endpoint_core.specs.Text.{addr_text}
-use Rattle.story_words.specs.Words.{mac_text, tunnel_word}
+use Rattle.change_story.specs.Words.{mac_text, tunnel_word}
 
 -- a kind and a VID
 abbrev pub of_vid : List ℕ → ℕ → List ℕ

@@ -4,34 +4,34 @@ use Rattle.std.specs.Prelude.{◌≡◌, ℕ, ◌+◌, ◌-◌, Bool, true, not,
 use Rattle.std.specs.Prelude.{if◌then◌else◌, List, [], ◌∷◌, ◌++◌, length, map, Option, Some, None}
 use Rattle.std.specs.Option.{option_map, option_map_or, option_to_list}
 use Rattle.std.specs.FinMap.{get, len}
-use Rattle.frame_view.specs.Address.{is_group as is_group_mac}
-use Rattle.frame_view.specs.First.{first}
-use Rattle.ip_udp_view.specs.Addr.{is_group, is_usable}
-use Rattle.ip_udp_view.specs.declared.addr.Addr.{Addr}
-use Rattle.ip_udp_view.specs.declared.addr.Tunnel.{Tunnel}
+use Rattle.wire.specs.Address.{is_group as is_group_mac}
+use Rattle.wire.specs.First.{first}
+use Rattle.wire.specs.Addr.{is_group, is_usable}
+use Rattle.wire.specs.declared.ip_udp.addr.Addr.{Addr}
+use Rattle.wire.specs.declared.ip_udp.addr.Tunnel.{Tunnel}
 use Rattle.filter_db.specs.Standing.{segment_count, sum_of_limits}
 use Rattle.filter_db.specs.Table.{Table, has_fixed, is_full}
-use Rattle.flood_lists.specs.Flood.{Entries, has_family, holds, is_own}
-use Rattle.flood_lists.specs.declared.own.Own.{Own}
-use Rattle.vlan_ports.specs.Ports.{is_port, is_up, egress_at}
-use Rattle.underlay.specs.Overlay.{are_free}
-use Rattle.underlay.specs.Settings.{own}
-use Rattle.underlay.specs.declared.tunnels.SegmentTunnel.{SegmentTunnel}
-use Rattle.overlay_settings.specs.declared.change.Change.{Change}
-use Rattle.overlay_settings.specs.declared.change.Change.TheVariants.{AddFlood, RemoveFlood, Fix, Unfix, SetAgeing}
-use Rattle.overlay_settings.specs.declared.change.Change.TheVariants.{SetLearning, SetMember, PortUp, PortDown}
-use Rattle.overlay_settings.specs.declared.change.Change.TheVariants.{Flush, AddSegment, RemoveSegment, SetLimit}
-use Rattle.overlay_settings.specs.declared.change.NewSegment.{NewSegment}
-use Rattle.overlay_settings.specs.declared.change.Target.{Target}
-use Rattle.overlay_settings.specs.declared.change.Target.TheVariants as target
-use Rattle.endpoint_state.specs.Change.{are_vnis, is_ageing, is_limit, is_too_much}
-use Rattle.endpoint_state.specs.Settings.{Settings, kind_named, tables_asked}
-use Rattle.endpoint_state.specs.State.{State}
-use Rattle.endpoint_state.specs.declared.fault.ChangeFault.{ChangeFault}
-use Rattle.endpoint_state.specs.declared.fault.ChangeFault.TheVariants.{NoSegment, NoPort, AlreadyThere, NotThere}
-use Rattle.endpoint_state.specs.declared.fault.ChangeFault.TheVariants.{FloodFull, TableFull, GroupAddress, OutOfRange}
-use Rattle.endpoint_state.specs.declared.fault.ChangeFault.TheVariants.{NoFamily, OwnAddress, SegmentThere, PoolFull}
-use Rattle.endpoint_state.specs.declared.fault.ChangeFault.TheVariants.{SegmentsFull, NoTunnel}
+use Rattle.overlay.specs.Flood.{Entries, has_family, holds, is_own}
+use Rattle.overlay.specs.declared.flood.own.Own.{Own}
+use Rattle.overlay.specs.Ports.{is_port, is_up, egress_at}
+use Rattle.overlay.specs.Overlay.{are_free}
+use Rattle.overlay.specs.UnderlaySettings.{own}
+use Rattle.overlay.specs.declared.underlay.tunnels.SegmentTunnel.{SegmentTunnel}
+use Rattle.overlay.specs.declared.settings.change.Change.{Change}
+use Rattle.overlay.specs.declared.settings.change.Change.TheVariants.{AddFlood, RemoveFlood, Fix, Unfix, SetAgeing}
+use Rattle.overlay.specs.declared.settings.change.Change.TheVariants.{SetLearning, SetMember, PortUp, PortDown}
+use Rattle.overlay.specs.declared.settings.change.Change.TheVariants.{Flush, AddSegment, RemoveSegment, SetLimit}
+use Rattle.overlay.specs.declared.settings.change.NewSegment.{NewSegment}
+use Rattle.overlay.specs.declared.settings.change.Target.{Target}
+use Rattle.overlay.specs.declared.settings.change.Target.TheVariants as target
+use Rattle.endpoint_core.specs.Change.{are_vnis, is_ageing, is_limit, is_too_much}
+use Rattle.endpoint_core.specs.Settings.{Settings, kind_named, tables_asked}
+use Rattle.endpoint_core.specs.State.{State}
+use Rattle.endpoint_core.specs.declared.state.fault.ChangeFault.{ChangeFault}
+use Rattle.endpoint_core.specs.declared.state.fault.ChangeFault.TheVariants.{NoSegment, NoPort, AlreadyThere, NotThere}
+use Rattle.endpoint_core.specs.declared.state.fault.ChangeFault.TheVariants.{FloodFull, TableFull, GroupAddress, OutOfRange}
+use Rattle.endpoint_core.specs.declared.state.fault.ChangeFault.TheVariants.{NoFamily, OwnAddress, SegmentThere, PoolFull}
+use Rattle.endpoint_core.specs.declared.state.fault.ChangeFault.TheVariants.{SegmentsFull, NoTunnel}
 use Rattle.change_story.specs.Segment.{Segment, segment_in}
 use Rattle.change_story.specs.declared.check.Check.{Check}
 use Rattle.change_story.specs.declared.seen.Seen.{Seen}

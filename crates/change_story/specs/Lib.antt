@@ -1,5 +1,6 @@
 pub mod Change
 pub mod Checks
-pub mod Segment
 pub mod Seen
+pub mod Segment
 pub mod Story
+pub mod Words

@@ -4,9 +4,9 @@
 --       mac at p2 seen at 5000000000, entries 3 of at most 1024
 use Rattle.std.specs.Prelude.{ℕ, ◌/◌, if◌then◌else◌, List, [], ◌∷◌, ◌++◌, codes, decimal, Option, Some, None}
 use Rattle.std.specs.List.{flat_map}
-use Rattle.ip_udp_view.specs.declared.addr.Tunnel.{Tunnel}
+use Rattle.wire.specs.declared.ip_udp.addr.Tunnel.{Tunnel}
 use Rattle.filter_db.specs.declared.entry.Entry.{Entry}
-use Rattle.story_words.specs.Words.{group_word, listed_word, member_word, port_text, stood_text, tunnel_word, up_word}
+use Rattle.change_story.specs.Words.{group_word, listed_word, member_word, port_text, stood_text, tunnel_word, up_word}
 use Rattle.change_story.specs.declared.seen.Seen.{Seen}
 use Rattle.change_story.specs.declared.seen.Seen.TheVariants as seen
 

@@ -2,9 +2,9 @@
 use Rattle.std.specs.Prelude.{ℕ, Bool, List, Option}
 use Rattle.std.specs.Option.{option_map}
 use Rattle.filter_db.specs.Table.{nanoseconds}
-use Rattle.flood_lists.specs.Flood.{Entries}
-use Rattle.underlay.specs.declared.tunnels.SegmentTunnel.{SegmentTunnel}
-use Rattle.endpoint_state.specs.Settings.{Settings, SegmentSettings, segment_at}
+use Rattle.overlay.specs.Flood.{Entries}
+use Rattle.overlay.specs.declared.underlay.tunnels.SegmentTunnel.{SegmentTunnel}
+use Rattle.endpoint_core.specs.Settings.{Settings, SegmentSettings, segment_at}
 
 -- of one that is there: its tunnels, its flood list, the limit of its table, its ageing in nanoseconds, whether it learns
 pub record Segment : Type 0 where

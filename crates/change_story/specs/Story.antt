@@ -1,9 +1,9 @@
 -- The story of a change: what it asks for, what each check saw, and then the decision line. It states no standard.
 use Rattle.std.specs.Prelude.{ℕ, nat_le, if◌then◌else◌, List, [], ◌++◌}
 use Rattle.timeline.specs.declared.event.Event.{Event as Happens}
-use Rattle.overlay_settings.specs.declared.change.Change.{Change}
-use Rattle.endpoint_state.specs.Change.{named}
-use Rattle.endpoint_state.specs.State.{State as Bridges, aged, fault}
+use Rattle.overlay.specs.declared.settings.change.Change.{Change}
+use Rattle.endpoint_core.specs.Change.{named}
+use Rattle.endpoint_core.specs.State.{State as Bridges, aged, fault}
 use Rattle.endpoint_core.specs.Event.{change_at}
 use Rattle.endpoint_core.specs.Step.{State, answer}
 use Rattle.decision_lines.specs.Lines.{line, answer_text}

@@ -1,20 +1,20 @@
 //! What a change asks for, as a line.
 ghost use Rattle.std.specs.Prelude.{◌≡◌, ◌++◌, OnOk, Some, codes, decimal, string_bytes};
 ghost use Rattle.endpoint_core.specs.Text.{addr_text};
-ghost use Rattle.story_words.specs.Words.{mac_text, tunnel_word};
+ghost use Rattle.change_story.specs.Words.{mac_text, tunnel_word};
 ghost use Rattle.change_story.specs.Change.{change_line, change_text, egress_name, named_text, numbers_text, of_vid, target_text};
 ghost use Rattle.change_story.specs.Change.{first_text, other_kind, peers_word, rules_text, second_text};
 ghost use Rattle.change_story.specs.Change.{tags_word, truth_word, tunnels_from, tunnels_text};
 
+use crate::words::{either, put_hop, put_name, tunnel_word};
 use endpoint_core::put_addr;
-use endpoint_state::{Change, NewSegment, Target};
-use frame_view::{Mac, Vid};
-use ip_udp_view::{Addr, Tunnel};
+use endpoint_core::state::{Change, NewSegment, Target};
+use overlay::ports::Egress;
+use overlay::underlay::{PeerRule, SegmentTunnel, TagRule, Tunnels};
 use std::alloc::AllocError;
 use std::fmt::Write;
-use story_words::{either, put_hop, put_name, tunnel_word};
-use underlay::{PeerRule, SegmentTunnel, TagRule, Tunnels};
-use vlan_ports::Egress;
+use wire::ether::{Mac, Vid};
+use wire::ip_udp::{Addr, Tunnel};
 
 /// Puts the line of a change. `AllocError`: there was no room for it.
 pub(crate) fn put_change(text: &mut String, change: Change) -> Result<(), AllocError>

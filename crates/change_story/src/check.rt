@@ -5,12 +5,12 @@ ghost use Rattle.filter_db.specs.Table.{Table};
 ghost use Rattle.change_story.specs.Checks as checks;
 
 use crate::seen::Seen;
-use endpoint_state::{ChangeFault, is_ageing, is_limit};
+use endpoint_core::state::{ChangeFault, is_ageing, is_limit};
 use filter_db::Entry;
-use flood_lists::Own;
-use frame_view::{Mac, Vid};
-use ip_udp_view::{Addr, Tunnel};
+use overlay::flood::Own;
 use std::alloc::AllocError;
+use wire::ether::{Mac, Vid};
+use wire::ip_udp::{Addr, Tunnel};
 
 /// The most remote endpoints of a flood list, whatever its limit.
 const MOST_REMOTES: u16 = 512;

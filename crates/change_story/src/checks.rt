@@ -1,10 +1,10 @@
 //! The checks of a change, in their order.
 ghost use Rattle.std.specs.Prelude.{◌≡◌, ◌≤◌, ◌+◌, ◌++◌, ◌∷◌, [], is_some, length, nat_lt, IfOk, OnOk};
 ghost use Rattle.filter_db.specs.Standing.{sum_of_limits};
-ghost use Rattle.underlay.specs.Settings.{own};
-ghost use Rattle.endpoint_state.specs.Change.{is_too_much};
-ghost use Rattle.endpoint_state.specs.Held.{moment_of, settings_of, state_at};
-ghost use Rattle.endpoint_state.specs.Settings.{kind_named, tables_asked};
+ghost use Rattle.overlay.specs.UnderlaySettings.{own};
+ghost use Rattle.endpoint_core.specs.Change.{is_too_much};
+ghost use Rattle.endpoint_core.specs.Held.{moment_of, settings_of, state_at};
+ghost use Rattle.endpoint_core.specs.Settings.{kind_named, tables_asked};
 ghost use Rattle.change_story.specs.Checks as specs;
 ghost use Rattle.change_story.specs.Segment.{segment_in};
 
@@ -14,12 +14,12 @@ use crate::check::{
     put_all, room_check, segment_check, tunnel_check, usable_check, vid_check, vnis_check,
 };
 use crate::segment::{Segment, segment_in};
-use endpoint_state::{Change, EndpointState, NewSegment, Target, kind_of};
-use flood_lists::{FloodList, Own};
-use frame_view::{Mac, Vid};
-use ip_udp_view::{Addr, Tunnel};
+use endpoint_core::state::{Change, EndpointState, NewSegment, Target, kind_of};
+use overlay::flood::{FloodList, Own};
+use overlay::underlay::Tunnels;
 use std::alloc::{AllocError, Global};
-use underlay::Tunnels;
+use wire::ether::{Mac, Vid};
+use wire::ip_udp::{Addr, Tunnel};
 
 /// The checks of a change at a moment, which isn't before any earlier one, each with what it saw. `AllocError`: there was no
 /// room for them.

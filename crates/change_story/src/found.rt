@@ -1,17 +1,17 @@
 //! What a change finds of what it changes.
 ghost use Rattle.std.specs.Prelude.{◌≡◌, ◌≤◌, length};
 ghost use Rattle.std.specs.Option.{option_map};
-ghost use Rattle.vlan_ports.specs.Ports.{is_port, is_up, egress_at};
-ghost use Rattle.endpoint_state.specs.Held.{moment_of, settings_of, state_at};
+ghost use Rattle.overlay.specs.Ports.{is_port, is_up, egress_at};
+ghost use Rattle.endpoint_core.specs.Held.{moment_of, settings_of, state_at};
 ghost use Rattle.change_story.specs.Checks.{entries_in, found, of_port};
 ghost use Rattle.change_story.specs.Segment.{Segment, segment_in};
 ghost use Rattle.change_story.specs.declared.seen.Seen.TheVariants as seen;
 
 use crate::seen::Seen;
 use crate::segment::segment_in;
-use endpoint_state::{Change, EndpointState};
-use frame_view::Vid;
-use vlan_ports::PortSet;
+use endpoint_core::state::{Change, EndpointState};
+use overlay::ports::PortSet;
+use wire::ether::Vid;
 
 /// What a change at a moment, which isn't before any earlier one, finds of what it changes.
 pub(crate) fn found(state: &EndpointState, now: u64, change: Change) -> Option<Seen>

@@ -19,5 +19,6 @@ mod line;
 mod seen;
 mod segment;
 mod story;
+pub mod words;
 
 pub use story::story_of_change;

@@ -5,13 +5,13 @@ ghost use Rattle.change_story.specs.Checks.{told};
 
 use crate::check::Check;
 use crate::seen::Seen;
-use filter_db::Entry;
-use ip_udp_view::Tunnel;
-use std::alloc::AllocError;
-use std::fmt::Write;
-use story_words::{
+use crate::words::{
     either, group_word, put_listed, put_member, put_name, put_stood, put_up, tunnel_word,
 };
+use filter_db::Entry;
+use std::alloc::AllocError;
+use std::fmt::Write;
+use wire::ip_udp::Tunnel;
 
 /// Puts the lines of what checks saw, up to the one that refuses. `AllocError`: there was no room for them.
 pub(crate) fn put_told(text: &mut String, checks: &[Check]) -> Result<(), AllocError>

@@ -1,7 +1,7 @@
 //! What a check saw.
 use filter_db::Entry;
-use ip_udp_view::Tunnel;
-use vlan_ports::Egress;
+use overlay::ports::Egress;
+use wire::ip_udp::Tunnel;
 
 /// What a check of a change saw, or what the change finds of what it changes.
 #[derive(Clone, Copy)]

@@ -1,14 +1,14 @@
 //! What checks ask of a segment.
 ghost use Rattle.std.specs.Prelude.{◌≡◌, IsSome, Some};
-ghost use Rattle.endpoint_state.specs.Held.{settings_of};
-ghost use Rattle.endpoint_state.specs.Settings.{segment_at};
+ghost use Rattle.endpoint_core.specs.Held.{settings_of};
+ghost use Rattle.endpoint_core.specs.Settings.{segment_at};
 ghost use Rattle.change_story.specs.Segment.{segment_in};
 
-use endpoint_state::EndpointState;
-use flood_lists::FloodList;
-use frame_view::Vid;
+use endpoint_core::state::EndpointState;
+use overlay::flood::FloodList;
+use overlay::underlay::Tunnels;
 use std::marker::Model;
-use underlay::Tunnels;
+use wire::ether::Vid;
 
 /// What checks ask of a segment that is there.
 #[derive(Drop)]

@@ -1,8 +1,8 @@
 //! The story of a change.
 ghost use Rattle.std.specs.Prelude.{◌≡◌, ◌≤◌, [], ◌∷◌, ◌++◌, IfOk, OnOk, codes, decimal, string_bytes, true};
-ghost use Rattle.endpoint_state.specs.Change.{is_vni_of};
-ghost use Rattle.endpoint_state.specs.Held.{moment_of, state_at};
-ghost use Rattle.endpoint_state.specs.State.{fault};
+ghost use Rattle.endpoint_core.specs.Change.{is_vni_of};
+ghost use Rattle.endpoint_core.specs.Held.{moment_of, state_at};
+ghost use Rattle.endpoint_core.specs.State.{fault};
 ghost use Rattle.endpoint_core.specs.Kept.{state_of};
 ghost use Rattle.decision_lines.specs.Lines.{reply_text};
 ghost use Rattle.change_story.specs.Checks.{AreVnis, found_unless, refusal};
@@ -14,14 +14,14 @@ use crate::check::Check;
 use crate::checks::checks_of;
 use crate::found::found;
 use crate::line::{put_seen, put_told};
+use crate::words::put_line_front;
 use endpoint_core::Endpoint;
-use endpoint_state::{Change, ChangeFault, EndpointState};
-use ip_udp_view::Tunnel;
+use endpoint_core::state::{Change, ChangeFault, EndpointState};
+use overlay::underlay::Tunnels;
 use std::alloc::{AllocError, Global};
 use std::fmt::Write;
-use story_words::put_line_front;
 use timeline::Event;
-use underlay::Tunnels;
+use wire::ip_udp::Tunnel;
 
 /// The story of an event of this number by which a change comes to an endpoint, in the state in which it comes: what it asks
 /// for, what each check saw, a line each, in the order of the checks up to the one that refuses, what it finds of what it

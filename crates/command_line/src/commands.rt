@@ -317,7 +317,7 @@ fn program<'a>(alloc: Global) -> Command<'a>
     Command::new(alloc, "tep")
         .about(ABOUT)
         .after_help(EXAMPLE)
-        .version("0.1.0")
+        .version("0.2.0")
         .propagate_version(true)
 }
 

@@ -12,6 +12,15 @@
 //! capture's name is parted at its last `#`. A text is a time exactly where it is a number without leading zeros, below 2^64, and one of
 //! four units, of less than 2^64 nanoseconds.
 //!
+//! Proved besides:
+//! - Refused comes only where that definition takes the words as neither; NoValue and Unpaired only where it takes them
+//!   and they mean no line, since a required value is missing or `compare` has captures as it doesn't take them;
+//!   NoFolder and Ignored only where they mean none either; InputTwice only where it takes them and more than one
+//!   capture's file is standard input, NoSegments only where it takes them and they lend digests to a run that is no
+//!   part, NoCapture only where it takes them and they compare what a run wrote with no capture: `line_of`.
+//! - The file and the interface of a capture's name are what stands before and behind its last `#`, the whole name
+//!   where there is none, and no interface where nothing stands behind it: `capture_name`.
+//!
 //! Why it is so: the words are read in a crate of their own over `clap`, whose own definition says what they mean. Standard
 //! input is a capture by the name `-`, from where it stands, and not `/dev/stdin` opened anew. The texts of settings and
 //! changes are files whatever their names. That standard input is one capture at most is asked of the words, so its refusal is

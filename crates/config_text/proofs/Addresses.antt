@@ -5,10 +5,10 @@ use Rattle.std.specs.Int.{w16, to_be_bytes}
 use Rattle.std.specs.List.{AllByRecursion, flat_map}
 use Rattle.std.proofs.lemmas.Bool.{leb-true, ltb-true, eqb-true}
 use Rattle.std.proofs.lemmas.List.{length-append, length-replicate}
-use Rattle.header_octets.specs.Octets.{IsText}
-use Rattle.ip_udp_view.specs.declared.addr.Addr.{Addr}
-use Rattle.ip_udp_view.specs.declared.addr.Addr.TheVariants.{V4, V6}
-use Rattle.ip_udp_view.specs.Addr.{IsAddr}
+use Rattle.wire.specs.Octets.{IsText}
+use Rattle.wire.specs.declared.ip_udp.addr.Addr.{Addr}
+use Rattle.wire.specs.declared.ip_udp.addr.Addr.TheVariants.{V4, V6}
+use Rattle.wire.specs.Addr.{IsAddr}
 use Rattle.config_text.proofs.Steps.{same_Some, map_some}
 pub use Rattle.config_text.proofs.Steps.{kept_some, then_some}
 use Rattle.config_text.specs.Address.{kept_if, exactly, cut, parts_in, joined, decimal_octet, has_leading_zero, number_of, decimal_digit, hex_pair, groups, side, filled, halves, ip6_groups, mac_of, ip4_of, ip6_of, or_else, addr_of}

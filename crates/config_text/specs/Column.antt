@@ -3,10 +3,10 @@ use Rattle.std.specs.Prelude.{ℕ, ℤ, pos, negsuc, List, [], ◌∷◌, Bool, 
 use Rattle.std.specs.Prelude.{Option, Some, None, nat_le, if◌then◌else◌, option_and_then}
 use Rattle.std.specs.Cmp.Lexicographic.{pointwise}
 use Rattle.toml.specs.Data.{Data, as_integer, as_bool, as_str}
-use Rattle.frame_view.specs.Address.{is_group as is_group_mac}
-use Rattle.ip_udp_view.specs.declared.addr.Addr.{Addr}
-use Rattle.ip_udp_view.specs.declared.addr.Addr.TheVariants.{V4, V6}
-use Rattle.ip_udp_view.specs.Addr.{is_usable, is_group}
+use Rattle.wire.specs.Address.{is_group as is_group_mac}
+use Rattle.wire.specs.declared.ip_udp.addr.Addr.{Addr}
+use Rattle.wire.specs.declared.ip_udp.addr.Addr.TheVariants.{V4, V6}
+use Rattle.wire.specs.Addr.{is_usable, is_group}
 use Rattle.config_text.specs.Address.{kept_if, mac_of, ip4_of, ip6_of, addr_of}
 
 -- a whole number of a range

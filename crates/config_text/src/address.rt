@@ -7,9 +7,9 @@ ghost use Rattle.config_text.specs.Address.{addr_of, ip4_of, ip6_of, mac_of};
 
 use crate::digit::HexPair;
 use crate::parts::joined;
-use frame_view::Mac;
-use ip_udp_view::Addr;
 use std::net::{Ipv4Addr, Ipv6Addr};
+use wire::ether::Mac;
+use wire::ip_udp::Addr;
 
 /// A MAC address: six pairs of hexadecimal digits of either case, joined by `:`. None for any other text.
 #[tactic(auto, unfolding(crate::specs::Address::mac_of))]

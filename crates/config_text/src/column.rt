@@ -5,9 +5,9 @@ ghost use Rattle.toml.specs.View.{view};
 ghost use Rattle.config_text.specs.Column.{is_endpoint, range};
 
 use crate::address::{addr_of, ip4_of, ip6_of, mac_of};
-use frame_view::{Mac, Vid};
-use ip_udp_view::Addr;
 use toml::Value;
+use wire::ether::{Mac, Vid};
+use wire::ip_udp::Addr;
 
 /// What the values of a key mean.
 pub trait Column {

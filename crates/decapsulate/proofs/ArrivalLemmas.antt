@@ -3,32 +3,32 @@ use Rattle.std.proofs.Common.{◌≡◌, ◌≢◌, ℕ, ◌+◌, ◌<◌, Bool,
 use Rattle.std.specs.Prelude.{◌⊎◌, is_none}
 use Rattle.std.proofs.lemmas.Bool.{eq-eqb, ne_eqb, eqb-true, cases_Bool}
 use Rattle.std.proofs.lemmas.List.{length-append, take_at, drop_at, drop-drop}
-use Rattle.header_octets.specs.Octets.{part}
-use Rattle.header_octets.specs.Sum.{total, folded}
-use Rattle.header_octets.proofs.OctetsLemmas.{field-append}
-use Rattle.frame_view.specs.First.{first, unless}
-use Rattle.frame_view.specs.Frame.{Frame, IsFrame, plain, frame_of}
-use Rattle.frame_view.specs.Refusal.{as_refused}
-use Rattle.frame_view.specs.declared.reason.Reason.{Reason}
-use Rattle.frame_view.proofs.FirstLemmas.{NothingHolds-from, first-nothing}
-use Rattle.ip_udp_view.specs.declared.addr.Addr.{Addr}
-use Rattle.ip_udp_view.specs.declared.addr.Tunnel.{Tunnel}
-use Rattle.ip_udp_view.specs.declared.addr.Tunnel.TheVariants.{Vxlan, Geneve}
-use Rattle.ip_udp_view.specs.declared.udp_view.SumState.{SumState}
-use Rattle.ip_udp_view.specs.declared.udp_view.SumState.TheVariants.{Zero, Right, Partial, Wrong}
-use Rattle.ip_udp_view.specs.Udp.{udp_header, datagram, data_of, pseudo, partial_sum, sum_state}
-use Rattle.ip_udp_view.specs.Datagram.{Datagram, datagram_reasons as udp_reasons}
-use Rattle.ip_udp_view.proofs.UdpLemmas.{HasFields-from}
-use Rattle.ip_udp_view.proofs.DatagramLemmas.{only-datagram}
-use Rattle.underlay.specs.declared.segment.Segment.{Segment}
-use Rattle.underlay.specs.declared.settings.Underlay.{Underlay}
-use Rattle.underlay.specs.Settings.{kind_at, port_of}
-use Rattle.underlay.specs.Overlay.{Overlay, segment_by}
-use Rattle.vxlan_head.specs.Reading.{vxlan_faults, reason_of as vxlan_reason}
-use Rattle.vxlan_head.proofs.Reading.{vxlan-only}
-use Rattle.geneve_head.specs.Reading.{geneve_faults, reason_of as geneve_reason}
-use Rattle.geneve_head.specs.declared.view.GnFault.TheVariants.{CriticalOption}
-use Rattle.geneve_head.proofs.PacketLemmas.{geneve-only}
+use Rattle.wire.specs.Octets.{part}
+use Rattle.wire.specs.Sum.{total, folded}
+use Rattle.wire.proofs.OctetsLemmas.{field-append}
+use Rattle.wire.specs.First.{first, unless}
+use Rattle.wire.specs.Frame.{Frame, IsFrame, plain, frame_of}
+use Rattle.wire.specs.Refusal.{as_refused}
+use Rattle.wire.specs.declared.ether.reason.Reason.{Reason}
+use Rattle.wire.proofs.FirstLemmas.{NothingHolds-from, first-nothing}
+use Rattle.wire.specs.declared.ip_udp.addr.Addr.{Addr}
+use Rattle.wire.specs.declared.ip_udp.addr.Tunnel.{Tunnel}
+use Rattle.wire.specs.declared.ip_udp.addr.Tunnel.TheVariants.{Vxlan, Geneve}
+use Rattle.wire.specs.declared.ip_udp.udp_view.SumState.{SumState}
+use Rattle.wire.specs.declared.ip_udp.udp_view.SumState.TheVariants.{Zero, Right, Partial, Wrong}
+use Rattle.wire.specs.Udp.{udp_header, datagram, data_of, pseudo, partial_sum, sum_state}
+use Rattle.wire.specs.Datagram.{Datagram, datagram_reasons as udp_reasons}
+use Rattle.wire.proofs.UdpLemmas.{HasFields-from}
+use Rattle.wire.proofs.DatagramLemmas.{only-datagram}
+use Rattle.overlay.specs.declared.underlay.segment.Segment.{Segment}
+use Rattle.overlay.specs.declared.underlay.settings.Underlay.{Underlay}
+use Rattle.overlay.specs.UnderlaySettings.{kind_at, port_of}
+use Rattle.overlay.specs.Overlay.{Overlay, segment_by}
+use Rattle.wire.specs.VxlanReading.{vxlan_faults, reason_of as vxlan_reason}
+use Rattle.wire.proofs.VxlanReading.{vxlan-only}
+use Rattle.wire.specs.GeneveReading.{geneve_faults, reason_of as geneve_reason}
+use Rattle.wire.specs.declared.geneve.view.GeneveFault.TheVariants.{CriticalOption}
+use Rattle.wire.proofs.PacketLemmas.{geneve-only}
 use Rattle.decapsulate.specs.Arrival.{packet_in, kind_to, sum_of, vni_of, inner_of, tunnel_reasons, is_bad_source, is_elsewhere, needs_sum, is_zero, is_wrong, frame_reasons, packet_reasons, datagram_reasons, outer_reasons, inner_reasons, arrival_in, arrival_by, arrival, IsTunnelled, IsSumTaken}
 use Rattle.decapsulate.proofs.PacketLemmas.{first-as_reasons}
 use Rattle.decapsulate.proofs.ReasonsLemmas.{carried-tunnel, outer-carried}

@@ -3,31 +3,31 @@ use Rattle.std.proofs.Common.{◌≡◌, ◌≢◌, ℕ, ◌+◌, ◌<◌, ◌�
 use Rattle.std.specs.Prelude.{◌⊎◌, is_none}
 use Rattle.std.proofs.lemmas.Bool.{ltb-false, le-ltb, eqb-true, eqb-false, not-false, not_from_true, and_cases, and_left, and_right}
 use Rattle.std.proofs.lemmas.List.{length-append, length-take, length-drop, take-append-drop, drop-drop}
-use Rattle.header_octets.specs.Octets.{IsText, part}
-use Rattle.frame_view.specs.Address.{is_group as is_group_mac, is_reserved}
-use Rattle.frame_view.specs.First.{first}
-use Rattle.frame_view.proofs.RefusalLemmas.{refused-ok}
-use Rattle.frame_view.specs.Frame.{Frame, IsFrame, plain, frame_of}
-use Rattle.frame_view.specs.Tag.{begins_tag}
-use Rattle.frame_view.specs.declared.reason.Reason.{Reason}
-use Rattle.frame_view.proofs.FirstLemmas.{NothingHolds, NothingHolds-from, first-nothing, same_Ok}
-use Rattle.ip_udp_view.specs.declared.addr.Addr.{Addr}
-use Rattle.ip_udp_view.specs.declared.addr.Tunnel.{Tunnel}
-use Rattle.ip_udp_view.specs.declared.addr.Tunnel.TheVariants.{Vxlan, Geneve}
-use Rattle.ip_udp_view.specs.declared.udp_view.SumState.{SumState}
-use Rattle.ip_udp_view.specs.declared.udp_view.SumState.TheVariants.{Zero, Right, Partial, Wrong}
-use Rattle.ip_udp_view.specs.Addr.{is_group}
-use Rattle.ip_udp_view.specs.Udp.{sport, dport, udp_sum, data_of, partial_sum, sum_state}
-use Rattle.ip_udp_view.specs.Datagram.{Datagram, datagram_reasons as udp_reasons}
-use Rattle.ip_udp_view.proofs.DatagramLemmas.{found-datagram, only-datagram, IsText-ip_payload, IsText-data}
-use Rattle.underlay.specs.declared.segment.Segment.{Segment}
-use Rattle.underlay.specs.declared.settings.Underlay.{Underlay}
-use Rattle.underlay.specs.Settings.{port_of}
-use Rattle.underlay.specs.Overlay.{Overlay, segment_by, floods, is_listed, drops_tags}
-use Rattle.vxlan_head.specs.Reading.{vxlan_faults, reason_of as vxlan_reason}
-use Rattle.vxlan_head.proofs.Reading.{vxlan-found}
-use Rattle.geneve_head.specs.Reading.{geneve_options, geneve_faults, reason_of as geneve_reason}
-use Rattle.geneve_head.proofs.PacketLemmas.{geneve-found}
+use Rattle.wire.specs.Octets.{IsText, part}
+use Rattle.wire.specs.Address.{is_group as is_group_mac, is_reserved}
+use Rattle.wire.specs.First.{first}
+use Rattle.wire.proofs.RefusalLemmas.{refused-ok}
+use Rattle.wire.specs.Frame.{Frame, IsFrame, plain, frame_of}
+use Rattle.wire.specs.Tag.{begins_tag}
+use Rattle.wire.specs.declared.ether.reason.Reason.{Reason}
+use Rattle.wire.proofs.FirstLemmas.{NothingHolds, NothingHolds-from, first-nothing, same_Ok}
+use Rattle.wire.specs.declared.ip_udp.addr.Addr.{Addr}
+use Rattle.wire.specs.declared.ip_udp.addr.Tunnel.{Tunnel}
+use Rattle.wire.specs.declared.ip_udp.addr.Tunnel.TheVariants.{Vxlan, Geneve}
+use Rattle.wire.specs.declared.ip_udp.udp_view.SumState.{SumState}
+use Rattle.wire.specs.declared.ip_udp.udp_view.SumState.TheVariants.{Zero, Right, Partial, Wrong}
+use Rattle.wire.specs.Addr.{is_group}
+use Rattle.wire.specs.Udp.{sport, dport, udp_sum, data_of, partial_sum, sum_state}
+use Rattle.wire.specs.Datagram.{Datagram, datagram_reasons as udp_reasons}
+use Rattle.wire.proofs.DatagramLemmas.{found-datagram, only-datagram, IsText-ip_payload, IsText-data}
+use Rattle.overlay.specs.declared.underlay.segment.Segment.{Segment}
+use Rattle.overlay.specs.declared.underlay.settings.Underlay.{Underlay}
+use Rattle.overlay.specs.UnderlaySettings.{port_of}
+use Rattle.overlay.specs.Overlay.{Overlay, segment_by, floods, is_listed, drops_tags}
+use Rattle.wire.specs.VxlanReading.{vxlan_faults, reason_of as vxlan_reason}
+use Rattle.wire.proofs.VxlanReading.{vxlan-found}
+use Rattle.wire.specs.GeneveReading.{geneve_options, geneve_faults, reason_of as geneve_reason}
+use Rattle.wire.proofs.PacketLemmas.{geneve-found}
 use Rattle.decapsulate.specs.Arrival.{Arrived, packet_in, kind_to, sum_of, vni_of, inner_of, tunnel_reasons, data_reasons, needs_sum, is_zero, is_wrong, outer_reasons, inner_reasons, arrival_in, arrival_by, arrival, IsTunnelled, IsSumTaken, Arrives, BringsWhatArrives}
 use Rattle.decapsulate.proofs.PacketLemmas.{first-as_reasons}
 use Rattle.decapsulate.proofs.ArrivalLemmas.{Reads-from, port-kind_at, state_of, text_sum, sum_state-header, frame_of-plain, Brings, arrives}

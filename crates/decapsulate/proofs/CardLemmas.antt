@@ -2,14 +2,14 @@
 use Rattle.std.proofs.Common.{◌≡◌, ℕ, Bool, true, false, not, ◌&&◌, ◌==◌, List, [], ◌∷◌, ◌++◌, Option, Some, None, refl, sym, ap, ◌∙◌, inl, inr}
 use Rattle.std.specs.Prelude.{◌⊎◌, is_none}
 use Rattle.std.proofs.lemmas.Bool.{eq-eqb, ne_eqb}
-use Rattle.frame_view.specs.First.{first}
-use Rattle.frame_view.specs.declared.reason.Reason.{Reason}
-use Rattle.frame_view.specs.declared.reason.Reason.TheVariants.{Fragment, NotUdp, BadUdp}
-use Rattle.frame_view.proofs.FirstLemmas.{first-append}
-use Rattle.ip_udp_view.specs.Parts.{Parts}
-use Rattle.ip_udp_view.specs.Datagram.{datagram_reasons}
-use Rattle.ip_udp_view.specs.Udp.{SplitsUdp, is_bad_udp, is_partial, sum_state}
-use Rattle.ip_udp_view.proofs.UdpLemmas.{only-udp}
+use Rattle.wire.specs.First.{first}
+use Rattle.wire.specs.declared.ether.reason.Reason.{Reason}
+use Rattle.wire.specs.declared.ether.reason.Reason.TheVariants.{Fragment, NotUdp, BadUdp}
+use Rattle.wire.proofs.FirstLemmas.{first-append}
+use Rattle.wire.specs.IpParts.{Parts}
+use Rattle.wire.specs.Datagram.{datagram_reasons}
+use Rattle.wire.specs.Udp.{SplitsUdp, is_bad_udp, is_partial, sum_state}
+use Rattle.wire.proofs.UdpLemmas.{only-udp}
 use Rattle.decapsulate.specs.Arrival.{Packet, packet_in, sum_of, frame_reasons}
 use Rattle.decapsulate.specs.Card.{is_left_to_card}
 use Rattle.decapsulate.proofs.PacketLemmas.{sum_of-parts}

@@ -1,18 +1,18 @@
 -- How the packet in a frame is read.
 use Rattle.std.proofs.Common.{◌≡◌, ℕ, Bool, true, false, List, [], ◌∷◌, ◌++◌, Some, option_map, refl, sym, ap, ◌∙◌}
 use Rattle.std.specs.Prelude.{is_none}
-use Rattle.frame_view.specs.First.{first}
-use Rattle.frame_view.specs.declared.reason.Reason.{Reason}
-use Rattle.ip_udp_view.specs.declared.addr.Addr.{Addr}
-use Rattle.ip_udp_view.specs.declared.addr.Tunnel.{Tunnel}
-use Rattle.ip_udp_view.specs.declared.udp_view.SumState.{SumState}
-use Rattle.ip_udp_view.specs.Parts.{Parts}
-use Rattle.ip_udp_view.specs.Ip.{Family, SplitsIp, packet_parts, source, destination, is_fragment, protocol}
-use Rattle.ip_udp_view.specs.Udp.{dport, SplitsUdp, sum_state}
-use Rattle.ip_udp_view.proofs.IpLemmas.{ReadsAs-from}
-use Rattle.ip_udp_view.proofs.UdpLemmas.{only-udp, datagram-split, ReadsAs-from as UdpReadsAs-from}
-use Rattle.underlay.specs.declared.settings.Underlay.{Underlay}
-use Rattle.underlay.specs.Settings.{kind_at}
+use Rattle.wire.specs.First.{first}
+use Rattle.wire.specs.declared.ether.reason.Reason.{Reason}
+use Rattle.wire.specs.declared.ip_udp.addr.Addr.{Addr}
+use Rattle.wire.specs.declared.ip_udp.addr.Tunnel.{Tunnel}
+use Rattle.wire.specs.declared.ip_udp.udp_view.SumState.{SumState}
+use Rattle.wire.specs.IpParts.{Parts}
+use Rattle.wire.specs.Ip.{Family, SplitsIp, packet_parts, source, destination, is_fragment, protocol}
+use Rattle.wire.specs.Udp.{dport, SplitsUdp, sum_state}
+use Rattle.wire.proofs.IpLemmas.{ReadsAs-from}
+use Rattle.wire.proofs.UdpLemmas.{only-udp, datagram-split, ReadsAs-from as UdpReadsAs-from}
+use Rattle.overlay.specs.declared.underlay.settings.Underlay.{Underlay}
+use Rattle.overlay.specs.UnderlaySettings.{kind_at}
 use Rattle.decapsulate.specs.Arrival.{Packet, packet_at, packet_of, kind_to, sum_of, as_reasons, sum_reasons, datagram_reasons}
 
 -- what is read of the parts of a text is read of the text

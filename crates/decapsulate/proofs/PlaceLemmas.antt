@@ -3,14 +3,14 @@ use Rattle.std.proofs.Common.{◌≡◌, ℕ, ◌+◌, ◌-◌, ◌≤◌, min, 
 use Rattle.std.proofs.lemmas.Bool.{ltb-false, ltb-true, cases_Bool}
 use Rattle.std.proofs.lemmas.List.{length-take, length-drop, take_min, take-take, drop-take, drop-drop, drop_at, take-append-drop}
 use Rattle.std.proofs.Math.Seq.{take-length}
-use Rattle.header_octets.specs.Octets.{part}
-use Rattle.frame_view.specs.Frame.{Frame, plain, size, frame_of}
-use Rattle.frame_view.proofs.TagLemmas.{SkipsTags-without_tags}
-use Rattle.ip_udp_view.specs.declared.addr.Tunnel.{Tunnel}
-use Rattle.ip_udp_view.specs.declared.addr.Tunnel.TheVariants.{Vxlan, Geneve}
-use Rattle.ip_udp_view.specs.Ip.{header_length, packet_length, payload}
-use Rattle.ip_udp_view.specs.Udp.{udp_length, data_of}
-use Rattle.ip_udp_view.specs.Datagram.{behind_tags, family, ip_text, tags_text}
+use Rattle.wire.specs.Octets.{part}
+use Rattle.wire.specs.Frame.{Frame, plain, size, frame_of}
+use Rattle.wire.proofs.TagLemmas.{SkipsTags-without_tags}
+use Rattle.wire.specs.declared.ip_udp.addr.Tunnel.{Tunnel}
+use Rattle.wire.specs.declared.ip_udp.addr.Tunnel.TheVariants.{Vxlan, Geneve}
+use Rattle.wire.specs.Ip.{header_length, packet_length, payload}
+use Rattle.wire.specs.Udp.{udp_length, data_of}
+use Rattle.wire.specs.Datagram.{behind_tags, family, ip_text, tags_text}
 use Rattle.decapsulate.specs.Arrival.{packet_in, inner_of, header_octets, inner_place}
 
 -- the text e stands in the text b, from place k on

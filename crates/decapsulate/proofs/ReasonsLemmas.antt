@@ -1,12 +1,12 @@
 -- The first reason of the tables of all layers, by that of each layer.
 use Rattle.std.proofs.Common.{◌≡◌, Bool, true, false, List, [], ◌∷◌, ◌++◌, ℕ, Option, Some, None, ap, ◌∙◌}
-use Rattle.frame_view.specs.First.{first}
-use Rattle.frame_view.specs.declared.reason.Reason.{Reason}
-use Rattle.frame_view.proofs.FirstLemmas.{first-append}
-use Rattle.ip_udp_view.specs.declared.addr.Tunnel.{Tunnel}
-use Rattle.ip_udp_view.specs.Udp.{data_of}
-use Rattle.underlay.specs.Overlay.{Overlay}
-use Rattle.underlay.specs.declared.settings.Underlay.{Underlay}
+use Rattle.wire.specs.First.{first}
+use Rattle.wire.specs.declared.ether.reason.Reason.{Reason}
+use Rattle.wire.proofs.FirstLemmas.{first-append}
+use Rattle.wire.specs.declared.ip_udp.addr.Tunnel.{Tunnel}
+use Rattle.wire.specs.Udp.{data_of}
+use Rattle.overlay.specs.Overlay.{Overlay}
+use Rattle.overlay.specs.declared.underlay.settings.Underlay.{Underlay}
 use Rattle.decapsulate.specs.Arrival.{Packet, packet_in, kind_to, frame_reasons, packet_reasons, datagram_reasons, data_reasons, tunnel_reasons, carried_reasons, outer_reasons}
 
 -- the first that holds, where it is one of those in front

@@ -5,41 +5,41 @@
 use Rattle.std.specs.Prelude.{◌≡◌, ◌≢◌, ◌↔◌, ◌<◌, ◌⊎◌, ℕ, ◌+◌, ◌==◌, ◌&&◌, ◌||◌, nat_lt, Bool}
 use Rattle.std.specs.Prelude.{true, false, not, IsTrue, if◌then◌else◌, List, [], ◌∷◌, ◌++◌}
 use Rattle.std.specs.Prelude.{length, drop, map, Option, Some, None, is_none, Result, Ok, Err}
-use Rattle.header_octets.specs.Octets.{IsText}
-use Rattle.header_octets.specs.Sum.{total, folded}
-use Rattle.frame_view.specs.Address.{is_group as is_group_mac, is_reserved}
-use Rattle.frame_view.specs.Ether.{has_tag}
-use Rattle.frame_view.specs.First.{first, unless}
-use Rattle.frame_view.specs.Frame.{IsFrame, plain, frame_of}
-use Rattle.frame_view.specs.Refusal.{as_refused}
-use Rattle.frame_view.specs.Tag.{begins_tag}
-use Rattle.frame_view.specs.declared.reason.Reason.{Reason}
-use Rattle.frame_view.specs.declared.reason.Reason.TheVariants.{TooLong, Sliced, Runt, BadSource, Reserved, NotIp, BadIp}
-use Rattle.frame_view.specs.declared.reason.Reason.TheVariants.{BadIpSum, BadOuterSource, NotForUs, Fragment, NotUdp}
-use Rattle.frame_view.specs.declared.reason.Reason.TheVariants.{BadUdp, NotTunnel, ZeroSum, BadUdpSum, UnknownVni}
-use Rattle.frame_view.specs.declared.reason.Reason.TheVariants.{WrongGroup, UnknownPeer, InnerRunt, InnerTag}
-use Rattle.frame_view.specs.declared.reason.Refused.{Refused}
-use Rattle.ip_udp_view.specs.declared.addr.Addr.{Addr}
-use Rattle.ip_udp_view.specs.declared.addr.Addr.TheVariants.{V4, V6}
-use Rattle.ip_udp_view.specs.declared.addr.Tunnel.{Tunnel}
-use Rattle.ip_udp_view.specs.declared.addr.Tunnel.TheVariants.{Vxlan, Geneve}
-use Rattle.ip_udp_view.specs.declared.udp_view.SumState.{SumState}
-use Rattle.ip_udp_view.specs.declared.udp_view.SumState.TheVariants.{Zero, Right, Partial, Wrong}
-use Rattle.ip_udp_view.specs.Addr.{is_group, is_usable}
-use Rattle.ip_udp_view.specs.Parts.{Parts}
-use Rattle.ip_udp_view.specs.Ip.{Family, Ip4, Ip6, header_length, is_bad_ip, is_bad_ip_sum}
-use Rattle.ip_udp_view.specs.Ip.{is_fragment, protocol, source, destination, payload}
-use Rattle.ip_udp_view.specs.Udp.{dport, udp_header, datagram, data_of, is_bad_udp, pseudo, partial_sum, sum_state}
-use Rattle.ip_udp_view.specs.Datagram.{Datagram, has_type, is_ip, family, ip_text, tags_text}
-use Rattle.vxlan_head.specs.Vxlan.{IsVxlan}
-use Rattle.vxlan_head.specs.Reading.{vxlan_vni, vxlan_inner, vxlan_faults, reason_of as vxlan_reason}
-use Rattle.geneve_head.specs.Options.{TunnelOption, allowed}
-use Rattle.geneve_head.specs.Geneve.{IsGeneve}
-use Rattle.geneve_head.specs.Reading.{head_length, geneve_vni, geneve_inner, geneve_faults, reason_of as geneve_reason}
-use Rattle.underlay.specs.declared.segment.Segment.{Segment}
-use Rattle.underlay.specs.declared.settings.Underlay.{Underlay}
-use Rattle.underlay.specs.Settings.{is_own, kind_at, port_of}
-use Rattle.underlay.specs.Overlay.{Overlay, segment_by, floods, is_listed, drops_tags}
+use Rattle.wire.specs.Octets.{IsText}
+use Rattle.wire.specs.Sum.{total, folded}
+use Rattle.wire.specs.Address.{is_group as is_group_mac, is_reserved}
+use Rattle.wire.specs.Ether.{has_tag}
+use Rattle.wire.specs.First.{first, unless}
+use Rattle.wire.specs.Frame.{IsFrame, plain, frame_of}
+use Rattle.wire.specs.Refusal.{as_refused}
+use Rattle.wire.specs.Tag.{begins_tag}
+use Rattle.wire.specs.declared.ether.reason.Reason.{Reason}
+use Rattle.wire.specs.declared.ether.reason.Reason.TheVariants.{TooLong, Sliced, Runt, BadSource, Reserved, NotIp, BadIp}
+use Rattle.wire.specs.declared.ether.reason.Reason.TheVariants.{BadIpSum, BadOuterSource, NotForUs, Fragment, NotUdp}
+use Rattle.wire.specs.declared.ether.reason.Reason.TheVariants.{BadUdp, NotTunnel, ZeroSum, BadUdpSum, UnknownVni}
+use Rattle.wire.specs.declared.ether.reason.Reason.TheVariants.{WrongGroup, UnknownPeer, InnerRunt, InnerTag}
+use Rattle.wire.specs.declared.ether.reason.Refused.{Refused}
+use Rattle.wire.specs.declared.ip_udp.addr.Addr.{Addr}
+use Rattle.wire.specs.declared.ip_udp.addr.Addr.TheVariants.{V4, V6}
+use Rattle.wire.specs.declared.ip_udp.addr.Tunnel.{Tunnel}
+use Rattle.wire.specs.declared.ip_udp.addr.Tunnel.TheVariants.{Vxlan, Geneve}
+use Rattle.wire.specs.declared.ip_udp.udp_view.SumState.{SumState}
+use Rattle.wire.specs.declared.ip_udp.udp_view.SumState.TheVariants.{Zero, Right, Partial, Wrong}
+use Rattle.wire.specs.Addr.{is_group, is_usable}
+use Rattle.wire.specs.IpParts.{Parts}
+use Rattle.wire.specs.Ip.{Family, Ip4, Ip6, header_length, is_bad_ip, is_bad_ip_sum}
+use Rattle.wire.specs.Ip.{is_fragment, protocol, source, destination, payload}
+use Rattle.wire.specs.Udp.{dport, udp_header, datagram, data_of, is_bad_udp, pseudo, partial_sum, sum_state}
+use Rattle.wire.specs.Datagram.{Datagram, has_type, is_ip, family, ip_text, tags_text}
+use Rattle.wire.specs.Vxlan.{IsVxlan}
+use Rattle.wire.specs.VxlanReading.{vxlan_vni, vxlan_inner, vxlan_faults, reason_of as vxlan_reason}
+use Rattle.wire.specs.GeneveOptions.{TunnelOption, allowed}
+use Rattle.wire.specs.Geneve.{IsGeneve}
+use Rattle.wire.specs.GeneveReading.{head_length, geneve_vni, geneve_inner, geneve_faults, reason_of as geneve_reason}
+use Rattle.overlay.specs.declared.underlay.segment.Segment.{Segment}
+use Rattle.overlay.specs.declared.underlay.settings.Underlay.{Underlay}
+use Rattle.overlay.specs.UnderlaySettings.{is_own, kind_at, port_of}
+use Rattle.overlay.specs.Overlay.{Overlay, segment_by, floods, is_listed, drops_tags}
 pub use Rattle.decapsulate.specs.declared.arrived.Arrived.{Arrived}
 
 -- ---- the tunnel header by its places

@@ -1,8 +1,8 @@
 -- Checksums that a sender left to its network card: the sum of the pseudo header alone (RFC 768; RFC 8200, 8.1).
 use Rattle.std.specs.Prelude.{◌&&◌, Bool, List, ℕ, is_none}
-use Rattle.frame_view.specs.First.{first}
-use Rattle.ip_udp_view.specs.Datagram.{datagram_reasons}
-use Rattle.ip_udp_view.specs.Udp.{is_partial}
+use Rattle.wire.specs.First.{first}
+use Rattle.wire.specs.Datagram.{datagram_reasons}
+use Rattle.wire.specs.Udp.{is_partial}
 use Rattle.decapsulate.specs.Arrival.{packet_in, sum_of}
 
 -- b is a frame with a whole UDP datagram in it, and that has such a checksum

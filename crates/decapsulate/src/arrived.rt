@@ -1,6 +1,6 @@
 //! A frame out of a tunnel.
-use frame_view::{BridgeFrame, Vid};
-use ip_udp_view::{Addr, Tunnel};
+use wire::ether::{BridgeFrame, Vid};
+use wire::ip_udp::{Addr, Tunnel};
 
 /// A frame that came through a tunnel.
 #[derive(Debug, Drop)]

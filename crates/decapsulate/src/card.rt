@@ -6,7 +6,7 @@ ghost use Rattle.std.specs.Prelude.{◌≡◌};
 ghost use Rattle.decapsulate.specs.Card.{is_left_to_card};
 
 use crate::packet::Packet;
-use ip_udp_view::{UDP, UdpView};
+use wire::ip_udp::{UDP, UdpView};
 
 /// Whether octets are a frame with a whole UDP datagram whose checksum is the sum of the pseudo header alone (RFC 768;
 /// RFC 8200, 8.1), whoever sent it, and to whom.

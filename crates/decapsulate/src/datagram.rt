@@ -1,15 +1,15 @@
 //! The UDP datagram in an outer packet, and the tunnel header in it.
 ghost use Rattle.std.specs.Prelude.{◌≡◌, IfOk, Some};
 ghost use Rattle.decapsulate.specs.Arrival.{kind_to, datagram_reasons, needs_sum, sum_reasons, tunnel_reasons, vni_of, inner_of};
-ghost use Rattle.frame_view.specs.First.{first, fault_of};
-ghost use Rattle.ip_udp_view.specs.Udp.{data_of};
+ghost use Rattle.wire.specs.First.{first, fault_of};
+ghost use Rattle.wire.specs.Udp.{data_of};
 
 use crate::packet::Packet;
-use frame_view::Reason;
-use geneve_head::{GnView, Known};
-use ip_udp_view::{Addr, SumState, Tunnel, UdpView};
-use underlay::Underlay;
-use vxlan_head::{Vni, VxView};
+use overlay::underlay::Underlay;
+use wire::ether::Reason;
+use wire::geneve::{GeneveView, Known};
+use wire::ip_udp::{Addr, SumState, Tunnel, UdpView};
+use wire::vxlan::{Vni, VxlanView};
 
 /// The kind of the tunnel that a packet came through, and the data of the datagram in it.
 #[inline(always)]
@@ -70,11 +70,11 @@ pub fn tunnel_of<'a>(
 {
     match kind {
         Tunnel::Vxlan => {
-            let view = VxView::read(carried)?;
+            let view = VxlanView::read(carried)?;
             Ok((view.vni(), view.payload()))
         }
         Tunnel::Geneve => {
-            let view = GnView::read(carried, known)?;
+            let view = GeneveView::read(carried, known)?;
             Ok((view.vni(), view.payload()))
         }
     }

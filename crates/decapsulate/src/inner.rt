@@ -1,13 +1,13 @@
 //! The frame in a tunnel.
 ghost use Rattle.std.specs.Prelude.{◌≡◌, ◌≤◌, length, IfOk, OnOk};
 ghost use Rattle.decapsulate.specs.Arrival.{inner_reasons};
-ghost use Rattle.frame_view.specs.First.{first, fault_of};
-ghost use Rattle.frame_view.specs.Ether.{has_tag};
-ghost use Rattle.frame_view.specs.Frame.{frame_of};
+ghost use Rattle.wire.specs.First.{first, fault_of};
+ghost use Rattle.wire.specs.Ether.{has_tag};
+ghost use Rattle.wire.specs.Frame.{frame_of};
 
-use frame_view::{BridgeFrame, EtherView, Reason, Tagging};
-use ip_udp_view::{Addr, Tunnel};
-use underlay::{PeerRule, Segment, TagRule};
+use overlay::underlay::{PeerRule, Segment, TagRule};
+use wire::ether::{BridgeFrame, EtherView, Reason, Tagging};
+use wire::ip_udp::{Addr, Tunnel};
 
 /// The frame that an inner text is, let into a segment; it came through a tunnel of a kind between these outer addresses.
 pub(crate) fn frame_in<'a>(

@@ -13,11 +13,11 @@
 //! it (`laws::one_meaning`, where the two tunnel ports differ, as the settings demand).
 //!
 //! Why it is so: what arrives and what is sent are two crates, this one and `encapsulate`. Each has its definitions, and the
-//! law on peers (`tunnel_peers`) ties them. What a test of an outer packet says is of no account where an earlier one holds:
-//! each is a total function of the whole text, and the first that holds is the answer. The outer source is asked for before
-//! the destination, and both before fragments, protocol and UDP: a fragment to somebody else is NotForUs. A group in the
-//! destination is let through until the segment is known, and must then be on its flood list with the kind of the tunnel; so
-//! must the sender where the segment's rule is listed.
+//! law on peers (`mesh_delivery::peers`) ties them. What a test of an outer packet says is of no account where an earlier
+//! one holds: each is a total function of the whole text, and the first that holds is the answer. The outer source is asked
+//! for before the destination, and both before fragments, protocol and UDP: a fragment to somebody else is NotForUs. A group
+//! in the destination is let through until the segment is known, and must then be on its flood list with the kind of the
+//! tunnel; so must the sender where the segment's rule is listed.
 #![tactic(auto)]
 
 mod arrived;

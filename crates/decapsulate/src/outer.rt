@@ -1,19 +1,19 @@
 //! Reading outer packets.
 ghost use Rattle.std.specs.Prelude.{◌≡◌, IfOk, Some};
 ghost use Rattle.decapsulate.specs.Arrival.{arrival, inner_place, carried_reasons, kind_to, vni_of, inner_of};
-ghost use Rattle.frame_view.specs.First.{first, fault_of};
-ghost use Rattle.frame_view.specs.Frame.{plain, size};
-ghost use Rattle.header_octets.specs.Octets.{part};
-ghost use Rattle.ip_udp_view.specs.Udp.{data_of};
+ghost use Rattle.wire.specs.First.{first, fault_of};
+ghost use Rattle.wire.specs.Frame.{plain, size};
+ghost use Rattle.wire.specs.Octets.{part};
+ghost use Rattle.wire.specs.Udp.{data_of};
 
 use crate::Arrived;
 use crate::datagram::{datagram_of, tunnel_of};
 use crate::inner::frame_in;
 use crate::packet::Packet;
-use frame_view::{Reason, Refused};
-use ip_udp_view::{Addr, Tunnel};
-use underlay::{Under, Underlay};
-use vxlan_head::Vni;
+use overlay::underlay::{Overlay, Underlay};
+use wire::ether::{Reason, Refused};
+use wire::ip_udp::{Addr, Tunnel};
+use wire::vxlan::Vni;
 
 /// What a packet carries in a tunnel to this endpoint, before its segment is known.
 #[derive(Debug, Drop)]
@@ -28,7 +28,7 @@ pub struct Carried<'a> {
 
 /// What a whole packet of the underlay brings, or the first reason, of 3, 5, 6 and 12 to 34, why it brings nothing. From
 /// `WrongGroup` on the segment is told. Nothing is copied: the frame's parts are slices of the octets.
-pub fn unwrap<'a>(under: &Under, octets: &'a [u8]) -> Result<Arrived<'a>, Refused>
+pub fn unwrap<'a>(under: &Overlay, octets: &'a [u8]) -> Result<Arrived<'a>, Refused>
     ensures value { result ≡ arrival under.now octets.now }
     ensures place { IfOk result (λ arrived.
         plain arrived.frame ≡ part (inner_place arrived.from.0 octets.now) (size arrived.frame) octets.now) }

@@ -1,14 +1,14 @@
 //! The IP packet in an outer frame.
 ghost use Rattle.std.specs.Prelude.{◌≡◌, ◌≤◌, IfOk, length, drop};
 ghost use Rattle.decapsulate.specs.Arrival.{packet_in, packet_of, frame_reasons, family_named, typed_reasons, packet_reasons};
-ghost use Rattle.frame_view.specs.First.{first, fault_of};
-ghost use Rattle.ip_udp_view.specs.Ip.{SplitsIp, packet_parts};
-ghost use Rattle.ip_udp_view.specs.View.{family_of, parts_of};
+ghost use Rattle.wire.specs.First.{first, fault_of};
+ghost use Rattle.wire.specs.Ip.{SplitsIp, packet_parts};
+ghost use Rattle.wire.specs.IpView.{family_of, parts_of};
 
-use frame_view::{EtherView, Reason};
-use ip_udp_view::{Addr, IP4_TYPE, IP6_TYPE, IpFault, IpView, UDP};
+use overlay::underlay::Underlay;
 use std::marker::Model;
-use underlay::Underlay;
+use wire::ether::{EtherView, Reason};
+use wire::ip_udp::{Addr, IP4_TYPE, IP6_TYPE, IpFault, IpView, UDP};
 
 /// The most VLAN tags in front of the type of an outer frame.
 const MOST_TAGS: usize = 2;
@@ -26,7 +26,7 @@ pub struct Packet<'a> {
 
 impl<'a> Model for Packet<'a> {
     ghost use Rattle.std.specs.Prelude.{IsTrue};
-    ghost use Rattle.ip_udp_view.specs.Addr.{same_family};
+    ghost use Rattle.wire.specs.Addr.{same_family};
     ghost use Rattle.decapsulate.specs.Arrival.{Packet};
 
     ghost Value = { Packet };

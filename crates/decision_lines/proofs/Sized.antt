@@ -1,6 +1,6 @@
 -- What leaves, told by its length alone.
 use Rattle.std.proofs.Common.{◌≡◌, refl, ℕ, List, Result, Ok, Err}
-use Rattle.frame_view.specs.declared.reason.Reason.{Reason}
+use Rattle.wire.specs.declared.ether.reason.Reason.{Reason}
 use Rattle.encapsulate.specs.Remote.{sizes}
 use Rattle.endpoint_core.specs.Text.{sent_text}
 use Rattle.decision_lines.specs.Outcomes.{count_text}

@@ -4,8 +4,8 @@ use Rattle.timeline.specs.declared.event.Event.{Event}
 use Rattle.timeline.specs.declared.source.Source.{Source}
 use Rattle.timeline.specs.declared.timeline.Cut.{Cut}
 use Rattle.timeline.specs.Words.{source_of, source_word, tap_word}
-use Rattle.endpoint_state.specs.declared.fault.ChangeFault.{ChangeFault}
-use Rattle.endpoint_state.specs.Fault.{number_of, name_of}
+use Rattle.endpoint_core.specs.declared.state.fault.ChangeFault.{ChangeFault}
+use Rattle.endpoint_core.specs.Fault.{number_of, name_of}
 use Rattle.endpoint_core.specs.Step.{Answer, Decided, Replied}
 use Rattle.endpoint_core.specs.Text.{result_of}
 

@@ -1,7 +1,7 @@
 -- Outcomes in a line, one by one. It states no standard.
 use Rattle.std.specs.Prelude.{ℕ, Bool, if◌then◌else◌, List, [], ◌++◌, codes, decimal, Result, Ok, Err}
-use Rattle.frame_view.specs.Reason.{name_of}
-use Rattle.frame_view.specs.declared.reason.Reason.{Reason}
+use Rattle.wire.specs.Reason.{name_of}
+use Rattle.wire.specs.declared.ether.reason.Reason.{Reason}
 
 -- what stands before an outcome: one space, but nothing before the first
 abbrev pub gap : Bool → List ℕ

@@ -5,8 +5,8 @@ ghost use Rattle.decision_lines.specs.Lines.{line_front, segment_text};
 
 use crate::counter::Counter;
 use crate::line::Line;
-use frame_view::Vid;
 use timeline::{Event, Source, Tap};
+use wire::ether::Vid;
 
 impl Line {
     /// Clears the line and puts what stands before the result: the event's number, its moment, its source, its number

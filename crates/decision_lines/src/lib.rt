@@ -1,7 +1,7 @@
 //! Decision lines, one for each event of a run, written into one buffer that is used again.
 //!
 //! Use first: a [`Line`] is begun with the front of an event and ended behind its result. Outcomes are put one by one, so that
-//! a run can hand each emission on as it comes. A [`Desk`] is what a run lends to each step, and a [`Counter`] the number of
+//! a run can hand each emission on as it comes. A [`Scratch`] is what a run lends to each step, and a [`Counter`] the number of
 //! its event.
 //!
 //! Specs to read, in order: `specs/Lines`, `specs/Outcomes`.
@@ -15,15 +15,15 @@
 #![tactic(auto)]
 
 mod counter;
-mod desk;
 mod front;
 mod line;
 mod most;
 mod outcome;
 mod place;
+mod scratch;
 mod whole;
 
 pub use counter::Counter;
-pub use desk::Desk;
 pub use line::Line;
 pub use most::most_of_a_line;
+pub use scratch::Scratch;

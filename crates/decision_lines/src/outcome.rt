@@ -1,7 +1,7 @@
 //! The result in a decision line: outcomes, a drop, or the reply to a change.
 ghost use Rattle.std.specs.Prelude.{◌≡◌, ◌≤◌, ◌+◌, ◌++◌, length, codes, decimal};
-ghost use Rattle.frame_view.specs.First.{fault_of};
-ghost use Rattle.frame_view.specs.Reason.{name_of, number_of};
+ghost use Rattle.wire.specs.First.{fault_of};
+ghost use Rattle.wire.specs.Reason.{name_of, number_of};
 ghost use Rattle.filter_db.specs.declared.place.Place.TheVariants.{Remote};
 ghost use Rattle.endpoint_core.specs.Text.{place_text};
 ghost use Rattle.decision_lines.specs.Lines.{reply_text};
@@ -10,8 +10,8 @@ ghost use Rattle.decision_lines.specs.Outcomes.{count_text, gap};
 use crate::line::Line;
 use endpoint_core::ChangeFault;
 use filter_db::Place;
-use frame_view::Reason;
-use ip_udp_view::{Addr, Tunnel};
+use wire::ether::Reason;
+use wire::ip_udp::{Addr, Tunnel};
 
 impl Line {
     /// Puts what came of an outlet: its place, and the number of octets that left or the name of the reason why none did;

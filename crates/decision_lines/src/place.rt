@@ -5,7 +5,7 @@ ghost use Rattle.endpoint_core.specs.Text.{place_text, kind_text, addr_text, ip4
 
 use crate::line::Line;
 use filter_db::Place;
-use ip_udp_view::{Addr, Tunnel};
+use wire::ip_udp::{Addr, Tunnel};
 
 impl Line {
     /// Puts a place: the number of a local port, or the address of a remote endpoint, behind the kind of its tunnel where

@@ -1,9 +1,9 @@
 //! Whole decision lines.
 ghost use Rattle.std.specs.Prelude.{◌≡◌, ◌≤◌, ◌+◌, ◌++◌, length, map, IsSome, IsTrue, None};
 ghost use Rattle.std.specs.List.{list_all};
-ghost use Rattle.frame_view.specs.First.{fault_of};
-ghost use Rattle.endpoint_state.specs.Settings.{segment_at};
-ghost use Rattle.endpoint_state.specs.Step.{can_leave};
+ghost use Rattle.wire.specs.First.{fault_of};
+ghost use Rattle.endpoint_core.specs.Settings.{segment_at};
+ghost use Rattle.endpoint_core.specs.StateStep.{can_leave};
 ghost use Rattle.endpoint_core.specs.Decision.{refused_as};
 ghost use Rattle.endpoint_core.specs.Kept.{state_of};
 ghost use Rattle.endpoint_core.specs.Step.{Decided, Replied, has_two_tunnels, sent_at};
@@ -13,10 +13,10 @@ ghost use Rattle.decision_lines.specs.Outcomes.{gap};
 
 use crate::counter::Counter;
 use crate::line::Line;
-use endpoint_core::{Came, ChangeFault, Endpoint};
+use endpoint_core::{Arrival, ChangeFault, Endpoint};
 use filter_db::Place;
-use frame_view::{Refused, Vid};
 use timeline::{Cut, Event};
+use wire::ether::{Refused, Vid};
 
 impl Line {
     /// Writes the line of a frame or a packet that is dropped, which is the event of this number.
@@ -60,7 +60,7 @@ impl Line {
     pub fn put_sized(
         &mut self,
         endpoint: &Endpoint,
-        came: &Came,
+        came: &Arrival,
         is_first: bool,
         two_tunnels: bool,
         place: Place,
@@ -76,7 +76,7 @@ impl Line {
     }
 
     /// Puts what comes of each place, with one space between two.
-    pub(crate) fn put_outcomes(&mut self, endpoint: &Endpoint, came: &Came, places: &[Place])
+    pub(crate) fn put_outcomes(&mut self, endpoint: &Endpoint, came: &Arrival, places: &[Place])
         requires there { IsSome (segment_at (state_of endpoint.now).bridges.settings came.now.vid) }
         requires leave { IsTrue (list_all (can_leave (state_of endpoint.now).bridges.settings came.now.vid) places.now) }
         requires few { length places.now ≤ 767 }

@@ -4,8 +4,8 @@ use Rattle.std.specs.Prelude.{MatchBool}
 use Rattle.std.specs.Io.KnownBytes.{Appends}
 use Rattle.std.proofs.Math.Seq.{take-append-add}
 use Rattle.std.proofs.lemmas.List.{append-nil, take-append-le}
-use Rattle.pcap_stream.specs.Counts.{GoesOnBy}
-use Rattle.pcap_stream.specs.Sink.{AppendsPart}
+use Rattle.pcap.specs.Counts.{GoesOnBy}
+use Rattle.pcap.specs.Sink.{AppendsPart}
 use Rattle.decision_objects.specs.Writing.{Grows, Stage, Tells, Told}
 
 -- ---- what was written

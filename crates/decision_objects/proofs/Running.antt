@@ -1,9 +1,9 @@
 -- Objects over a whole run.
 use Rattle.std.proofs.Common.{◌≡◌, ◌∙◌, ap, sym, subst, ℕ, List, [], ◌∷◌, Option, Some, None}
 use Rattle.std.specs.List.{FoldsTo}
-use Rattle.overlay_settings.specs.declared.change.TimedChange.{TimedChange}
+use Rattle.overlay.specs.declared.settings.change.TimedChange.{TimedChange}
 use Rattle.timeline.specs.declared.event.Event.{Event}
-use Rattle.endpoint_state.specs.Settings.{Settings}
+use Rattle.endpoint_core.specs.Settings.{Settings}
 use Rattle.endpoint_core.specs.Step.{Answer, opened}
 use Rattle.segment_set.specs.Segments.{Segments}
 use Rattle.stream_run.specs.Sights.{Sight, sights}

@@ -5,15 +5,15 @@
 --     object_of      the object of an event and its answer
 --     cut_object      the object of a cut capture
 use Rattle.std.specs.Prelude.{ℕ, Bool, if◌then◌else◌, List, [], ◌∷◌, ◌++◌, codes, decimal, Option, Some, None, Result, Ok, Err}
-use Rattle.frame_view.specs.Reason.{name_of, number_of}
-use Rattle.frame_view.specs.declared.reason.Reason.{Reason}
+use Rattle.wire.specs.Reason.{name_of, number_of}
+use Rattle.wire.specs.declared.ether.reason.Reason.{Reason}
 use Rattle.timeline.specs.declared.event.Event.{Event}
 use Rattle.timeline.specs.declared.source.Source.{Source}
 use Rattle.timeline.specs.declared.timeline.Cut.{Cut}
 use Rattle.timeline.specs.Words.{source_of, source_word, tap_word}
 use Rattle.encapsulate.specs.Remote.{sizes}
-use Rattle.endpoint_state.specs.declared.fault.ChangeFault.{ChangeFault}
-use Rattle.endpoint_state.specs.Fault as change
+use Rattle.endpoint_core.specs.declared.state.fault.ChangeFault.{ChangeFault}
+use Rattle.endpoint_core.specs.Fault as change
 use Rattle.endpoint_core.specs.Decision.{Sent}
 use Rattle.endpoint_core.specs.Step.{Answer, Decided, Replied}
 use Rattle.endpoint_core.specs.Text.{place_text}

@@ -3,7 +3,7 @@
 --     Expects, Sees      an event more comes; and is answered
 --     objects_of      the objects of a whole run
 use Rattle.std.specs.Prelude.{◌≡◌, ℕ, List, Option, Some, None}
-use Rattle.overlay_settings.specs.declared.change.TimedChange.{TimedChange}
+use Rattle.overlay.specs.declared.settings.change.TimedChange.{TimedChange}
 use Rattle.timeline.specs.declared.event.Event.{Event}
 use Rattle.endpoint_core.specs.Step.{Answer}
 use Rattle.capture_run.specs.Outputs.{named_by}

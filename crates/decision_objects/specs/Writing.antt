@@ -3,8 +3,8 @@
 --     Stage, Grows      the same with what stands in a line and was not told yet
 use Rattle.std.specs.Prelude.{◌≡◌, ℕ, Bool, List, ◌++◌, Option, MatchBool}
 use Rattle.std.specs.Io.KnownBytes.{Appends}
-use Rattle.pcap_stream.specs.Counts.{GoesOnBy}
-use Rattle.pcap_stream.specs.Sink.{AppendsPart}
+use Rattle.pcap.specs.Counts.{GoesOnBy}
+use Rattle.pcap.specs.Sink.{AppendsPart}
 
 -- ---- an output
 

@@ -1,8 +1,8 @@
 //! Objects, but for the outcomes of what leaves.
 ghost use Rattle.std.specs.Prelude.{◌≡◌, ◌≤◌, ◌+◌, ◌++◌, Some, None, codes, decimal, length};
-ghost use Rattle.frame_view.specs.First.{fault_of};
+ghost use Rattle.wire.specs.First.{fault_of};
 ghost use Rattle.timeline.specs.Words.{source_word};
-ghost use Rattle.endpoint_state.specs.Fault.{number_of};
+ghost use Rattle.endpoint_core.specs.Fault.{number_of};
 ghost use Rattle.endpoint_core.specs.Decision.{refused_as};
 ghost use Rattle.endpoint_core.specs.Step.{Decided, Replied};
 ghost use Rattle.decision_objects.specs.Objects.{cut_object, end_text, event_text, number_text, object_text, segment_text};
@@ -10,8 +10,8 @@ ghost use Rattle.decision_objects.specs.Objects.{cut_object, end_text, event_tex
 use crate::origin::Origin;
 use decision_lines::{Counter, Line};
 use endpoint_core::ChangeFault;
-use frame_view::{Refused, Vid};
 use timeline::{Cut, Source};
+use wire::ether::{Refused, Vid};
 
 /// Writes the object of a frame or a packet that is dropped.
 pub fn write_drop(line: &mut Line, number: &mut Counter, origin: &Origin, refused: Refused)

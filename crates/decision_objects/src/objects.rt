@@ -1,7 +1,7 @@
 //! Whoever writes an object for each event.
 ghost use Rattle.std.specs.Prelude.{◌≡◌, None, false};
-ghost use Rattle.frame_view.specs.First.{fault_of};
-ghost use Rattle.endpoint_core.specs.Course.{CanLeave, IsThere, decision_of};
+ghost use Rattle.wire.specs.First.{fault_of};
+ghost use Rattle.endpoint_core.specs.Forwarding.{CanLeave, IsThere, decision_of};
 ghost use Rattle.endpoint_core.specs.Kept.{state_of};
 ghost use Rattle.endpoint_core.specs.Step.{Decided, Replied};
 ghost use Rattle.decision_objects.specs.Objects.{cut_object, object_text};
@@ -10,14 +10,14 @@ ghost use Rattle.decision_objects.specs.Writing.{Tells};
 
 use crate::origin::Origin;
 use crate::output::ObjectOutput;
-use endpoint_core::{ChangeFault, Course, Endpoint};
+use endpoint_core::{ChangeFault, Endpoint, Forwarding};
 use filter_db::Place;
-use frame_view::Vid;
-use overlay_settings::TimedChange;
-use pcap_stream::Output;
+use overlay::settings::TimedChange;
+use pcap::stream::Output;
 use std::marker::Model;
 use stream_run::Watch;
 use timeline::{Cut, Event, Happening, Source, Tap};
+use wire::ether::Vid;
 
 /// How many numbers a place could have.
 const PLACES: usize = 256;
@@ -104,12 +104,12 @@ impl<'c, W: Output> Watch for Objects<'c, W> {
     ghost ends = { λ old state new. new ≡ old };
 
     #[inline]
-    fn see(&mut self, _endpoint: &Endpoint, number: u64, event: &Event, _came: &Course) {
+    fn see(&mut self, _endpoint: &Endpoint, number: u64, event: &Event, _came: &Forwarding) {
         self.expect(number, event);
     }
 
-    fn hear_decision(&mut self, endpoint: &Endpoint, course: &Course, places: &[Place]) {
-        self.write_decision(endpoint, course, places);
+    fn hear_decision(&mut self, endpoint: &Endpoint, forwarding: &Forwarding, places: &[Place]) {
+        self.write_decision(endpoint, forwarding, places);
     }
 
     fn hear_reply(&mut self, reply: Result<(), ChangeFault>) {
@@ -148,15 +148,15 @@ impl<'c, W: Output> Objects<'c, W> {
     }
 
     /// Writes the object of a frame or a packet that was taken.
-    fn write_decision(&mut self, endpoint: &Endpoint, course: &Course, places: &[Place])
-        requires there { IsThere (state_of endpoint.now).bridges.settings course.now }
-        requires leave { CanLeave (state_of endpoint.now).bridges.settings course.now places.now }
+    fn write_decision(&mut self, endpoint: &Endpoint, forwarding: &Forwarding, places: &[Place])
+        requires there { IsThere (state_of endpoint.now).bridges.settings forwarding.now }
+        requires leave { CanLeave (state_of endpoint.now).bridges.settings forwarding.now places.now }
         ensures told { let S = (state_of endpoint.now).bridges.settings in
             Tells self.old.told self.new.told
-            (object_text self.old.origin self.old.named (Decided (decision_of S course.now places.now))) }
+            (object_text self.old.origin self.old.named (Decided (decision_of S forwarding.now places.now))) }
         ensures changes { self.new.changes ≡ self.old.changes }
     {
-        match course {
+        match forwarding {
             Ok(came) => self
                 .objects
                 .write_sent(&self.origin, endpoint, came, places),

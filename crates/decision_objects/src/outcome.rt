@@ -1,22 +1,22 @@
 //! What came of a place.
 ghost use Rattle.std.specs.Prelude.{◌≡◌, ◌≤◌, ◌+◌, ◌++◌, length, IsTrue, Ok, Err};
-ghost use Rattle.endpoint_state.specs.Step.{can_leave};
+ghost use Rattle.endpoint_core.specs.StateStep.{can_leave};
 ghost use Rattle.endpoint_core.specs.Kept.{state_of};
 ghost use Rattle.endpoint_core.specs.Step.{sent_at};
 ghost use Rattle.endpoint_core.specs.Text.{place_text};
 ghost use Rattle.decision_objects.specs.Objects.{count_text, gap, outcome_text};
 
 use decision_lines::Line;
-use endpoint_core::{Came, Endpoint};
+use endpoint_core::{Arrival, Endpoint};
 use filter_db::Place;
-use frame_view::Reason;
+use wire::ether::Reason;
 
 /// Puts what comes of a place, behind a comma where it isn't the first. What leaves there is only measured.
 #[inline]
 pub(crate) fn put_sized(
     line: &mut Line,
     endpoint: &Endpoint,
-    came: &Came,
+    came: &Arrival,
     is_first: bool,
     two_tunnels: bool,
     place: Place,

@@ -3,9 +3,9 @@
 //! A line that has no room for one outcome more goes on to the output before that, so that an object may have any number of them.
 ghost use Rattle.std.specs.Prelude.{◌≡◌, ◌≤◌, ◌+◌, ◌++◌, [], IsSome, IsTrue, Some, None, false, length, map};
 ghost use Rattle.std.specs.List.{list_all};
-ghost use Rattle.frame_view.specs.First.{fault_of};
-ghost use Rattle.endpoint_state.specs.Settings.{segment_at};
-ghost use Rattle.endpoint_state.specs.Step.{can_leave};
+ghost use Rattle.wire.specs.First.{fault_of};
+ghost use Rattle.endpoint_core.specs.Settings.{segment_at};
+ghost use Rattle.endpoint_core.specs.StateStep.{can_leave};
 ghost use Rattle.endpoint_core.specs.Decision.{refused_as};
 ghost use Rattle.endpoint_core.specs.Kept.{state_of};
 ghost use Rattle.endpoint_core.specs.Step.{Decided, Replied, has_two_tunnels, sent_at};
@@ -16,12 +16,12 @@ use crate::object::{begin_sent, end_sent, write_cut, write_drop, write_reply};
 use crate::origin::Origin;
 use crate::outcome::put_sized;
 use decision_lines::{Counter, Line};
-use endpoint_core::{Came, ChangeFault, Endpoint};
+use endpoint_core::{Arrival, ChangeFault, Endpoint};
 use filter_db::Place;
-use frame_view::{Refused, Vid};
-use pcap_stream::Output;
+use pcap::stream::Output;
 use std::marker::Model;
 use timeline::Cut;
+use wire::ether::{Refused, Vid};
 
 /// Up to here in the line an outcome with its comma finds room, and what stands behind the last one: 98 octets and 51.
 const LAST_BEGIN: usize = 65536 - 149;
@@ -82,7 +82,7 @@ impl<W: Output> ObjectOutput<W> {
         &mut self,
         origin: &Origin,
         endpoint: &Endpoint,
-        came: &Came,
+        came: &Arrival,
         places: &[Place],
     )
         requires there { IsSome (segment_at (state_of endpoint.now).bridges.settings came.now.vid) }
@@ -128,7 +128,7 @@ impl<W: Output> ObjectOutput<W> {
     }
 
     /// Puts what comes of each place, with a comma between two.
-    fn put_outcomes(&mut self, endpoint: &Endpoint, came: &Came, places: &[Place])
+    fn put_outcomes(&mut self, endpoint: &Endpoint, came: &Arrival, places: &[Place])
         requires there { IsSome (segment_at (state_of endpoint.now).bridges.settings came.now.vid) }
         requires leave { IsTrue (list_all (can_leave (state_of endpoint.now).bridges.settings came.now.vid) places.now) }
         requires room { length self.old.line + 51 ≤ 65536 }

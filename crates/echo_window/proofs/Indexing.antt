@@ -5,7 +5,7 @@ use Rattle.std.proofs.Math.Seq.{get_or-append_seam}
 use Rattle.std.proofs.lemmas.Bool.Decides.{eqb_tells}
 use Rattle.std.proofs.lemmas.Grind.{get_or-set_at}
 use Rattle.echo_window.specs.Bucket.{bucket_of}
-use Rattle.echo_window.specs.Echo.{Came, Record, met_again}
+use Rattle.echo_window.specs.Echo.{Arrival, Record, met_again}
 use Rattle.echo_window.specs.Index.{AreAlike, IsAllAt, IsBlank, IsIndexed, IsKept, IsLatest, IsLinked, IsPlaced, alikes, befores, buckets, places}
 use Rattle.echo_window.specs.Laid.{came_of, laid, lengths}
 use Rattle.echo_window.specs.declared.kept.Kept.{Kept}
@@ -141,7 +141,7 @@ placed-at passed (j ∷ ks) (suc i) d l h = omega (arith, placed-at (passed + j.
 
 -- ---- the lists that they stand for
 
-list-buckets-length : (came : List Came) → length (buckets came) ≡ length came
+list-buckets-length : (came : List Arrival) → length (buckets came) ≡ length came
 list-buckets-length [] = refl
 list-buckets-length (c ∷ came) = ap suc (list-buckets-length came)
 
@@ -170,7 +170,7 @@ alike-at [] i d l = absurd (omega (arith, l))
 alike-at (k ∷ ks) zero d l = refl
 alike-at (k ∷ ks) (suc i) d l = alike-at ks i d (omega (arith, l))
 
-pub bucket-at : (came : List Came) (i : ℕ) (d : Came) → i < length came → get_or (buckets came) i 0 ≡ bucket_of (get_or came i d).frame
+pub bucket-at : (came : List Arrival) (i : ℕ) (d : Arrival) → i < length came → get_or (buckets came) i 0 ≡ bucket_of (get_or came i d).frame
 bucket-at [] i d l = absurd (omega (arith, l))
 bucket-at (c ∷ came) zero d l = refl
 bucket-at (c ∷ came) (suc i) d l = bucket-at came i d (omega (arith, l))
@@ -180,7 +180,7 @@ before-at [] i d l = absurd (omega (arith, l))
 before-at (k ∷ ks) zero d l = refl
 before-at (k ∷ ks) (suc i) d l = before-at ks i d (omega (arith, l))
 
-buckets-append : (came : List Came) (c : Came) → buckets (came ++ c ∷ []) ≡ buckets came ++ bucket_of c.frame ∷ []
+buckets-append : (came : List Arrival) (c : Arrival) → buckets (came ++ c ∷ []) ≡ buckets came ++ bucket_of c.frame ∷ []
 buckets-append [] c = refl
 buckets-append (x ∷ came) c = ap (λ bs. bucket_of x.frame ∷ bs) (buckets-append came c)
 
@@ -207,7 +207,7 @@ alikes-set (j ∷ ks) zero more d l e = ap (λ n. n ∷ alikes ks) e
 alikes-set (j ∷ ks) (suc i) more d l e = ap (λ ns. j.alike ∷ ns) (alikes-set ks i more d (omega (arith, l)) e)
 
 -- a frame that was met again has the bucket that it had
-buckets-met : (m : Record) (came : List Came) (i : ℕ) → buckets (met_again m came i) ≡ buckets came
+buckets-met : (m : Record) (came : List Arrival) (i : ℕ) → buckets (met_again m came i) ≡ buckets came
 buckets-met m [] i = refl
 buckets-met m (c ∷ came) zero = refl
 buckets-met m (c ∷ came) (suc i) = ap (λ bs. bucket_of c.frame ∷ bs) (buckets-met m came i)
@@ -230,7 +230,7 @@ pub indexed-met : (gone passed : ℕ) (ks : List Kept) (row latest : List ℕ) (
     → more.at ≡ k.at → more.length ≡ k.length → more.before ≡ k.before → more.place ≡ k.place → more.alike ≡ k.alike → laid (set ks i more) row ≡ met_again m (laid ks row) i
     → IsIndexed gone passed ks row latest → IsIndexed gone passed (set ks i more) row latest
 indexed-met gone passed ks row latest i k more m l here a e b p f is h =
-    let bs : buckets (laid (set ks i more) row) ≡ buckets (laid ks row) = ap (λ (cs : List Came). buckets cs) is ∙ buckets-met m (laid ks row) i in
+    let bs : buckets (laid (set ks i more) row) ≡ buckets (laid ks row) = ap (λ (cs : List Arrival). buckets cs) is ∙ buckets-met m (laid ks row) i in
     let ns : befores (set ks i more) ≡ befores ks = befores-set ks i more k l (b ∙ ap (λ (x : Kept). x.before) here) in
     record {
       linked = subst (λ xs. IsLinked gone xs (befores (set ks i more)) latest) (sym bs) (subst (λ xs. IsLinked gone (buckets (laid ks row)) xs latest) (sym ns) h.linked);
@@ -247,7 +247,7 @@ pub indexed-put : (gone passed : ℕ) (ks : List Kept) (row latest : List ℕ) (
     → IsIndexed gone passed ks row latest → IsIndexed gone passed (ks ++ k ∷ []) (row ++ text) (set latest b n)
 indexed-put gone passed ks row latest k text b n whole size is few number before at all h =
     let bs : buckets (laid (ks ++ k ∷ []) (row ++ text)) ≡ buckets (laid ks row) ++ b ∷ [] =
-    ap (λ (cs : List Came). buckets cs) (laid-put ks row k text whole size) ∙ buckets-append (laid ks row) (came_of k text) ∙ ap (λ x. buckets (laid ks row) ++ x ∷ []) (sym is) in
+    ap (λ (cs : List Arrival). buckets cs) (laid-put ks row k text whole size) ∙ buckets-append (laid ks row) (came_of k text) ∙ ap (λ x. buckets (laid ks row) ++ x ∷ []) (sym is) in
     let ns : befores (ks ++ k ∷ []) ≡ befores ks ++ k.before ∷ [] = befores-append ks k in
     let old = linked-put gone b n k.before (buckets (laid ks row)) (befores ks) latest (omega (arith, number, buckets-length ks row)) before (befores-length ks ∙ sym (buckets-length ks row)) few h.linked in
     record {

@@ -2,7 +2,7 @@
 use Rattle.std.proofs.Common.{◌≡◌, ℕ, ◌+◌, ◌<◌, ◌≤◌, true, List, [], ◌∷◌, ◌++◌, length, map, get_or, set, take, drop, refl, ap, ◌∙◌, zero, suc, arith, length-append, length-drop, length-take}
 use Rattle.std.proofs.lemmas.List.{take-append-le, drop-append-le}
 use Rattle.std.proofs.lemmas.Grind.{common_steps}
-use Rattle.echo_window.specs.Echo.{Came, Record, first_met, met_again, met_at, octets_of}
+use Rattle.echo_window.specs.Echo.{Arrival, Record, first_met, met_again, met_at, octets_of}
 use Rattle.echo_window.specs.Laid.{came_of, laid, lengths}
 use Rattle.echo_window.specs.declared.kept.Kept.{Kept}
 
@@ -27,20 +27,20 @@ laid-put (j ∷ ks) row k text h l =
     rw (take-append-le j.length row text front, drop-append-le j.length row text front) (ap (λ cs. came_of j (take j.length row) ∷ cs) rest)
 
 -- one of them, in place of another of as many octets
-pub laid-set : (ks : List Kept) (row : List ℕ) (i : ℕ) (k d : Kept) (e : Came) → i < length ks → k.length ≡ (get_or ks i d).length → laid (set ks i k) row ≡ set (laid ks row) i (came_of k (get_or (laid ks row) i e).frame)
+pub laid-set : (ks : List Kept) (row : List ℕ) (i : ℕ) (k d : Kept) (e : Arrival) → i < length ks → k.length ≡ (get_or ks i d).length → laid (set ks i k) row ≡ set (laid ks row) i (came_of k (get_or (laid ks row) i e).frame)
 laid-set [] row i k d e h l = absurd (omega (arith, h))
 laid-set (j ∷ ks) row zero k d e h l = grind arith
 laid-set (j ∷ ks) row (suc i) k d e h l = ap (λ cs. came_of j (take j.length row) ∷ cs) (laid-set ks (drop j.length row) i k d e (omega (arith, h)) l)
 
 -- the octets of one
-pub laid-at : (ks : List Kept) (row : List ℕ) (i : ℕ) (d : Kept) (e : Came) → i < length ks → get_or (laid ks row) i e ≡ came_of (get_or ks i d) (take (get_or ks i d).length (drop (lengths (take i ks)) row))
+pub laid-at : (ks : List Kept) (row : List ℕ) (i : ℕ) (d : Kept) (e : Arrival) → i < length ks → get_or (laid ks row) i e ≡ came_of (get_or ks i d) (take (get_or ks i d).length (drop (lengths (take i ks)) row))
 laid-at [] row i d e h = absurd (omega (arith, h))
 laid-at (j ∷ ks) row zero d e h = refl
 laid-at (j ∷ ks) row (suc i) d e h =
     laid-at ks (drop j.length row) i d e (omega (arith, h)) ∙ grind (arith, common_steps)
 
 -- where it came in
-pub laid-place : (ks : List Kept) (row : List ℕ) (i : ℕ) (e : Came) → i < length ks → get_or (map (λ k. k.place) ks) i 0 ≡ (get_or (laid ks row) i e).place
+pub laid-place : (ks : List Kept) (row : List ℕ) (i : ℕ) (e : Arrival) → i < length ks → get_or (map (λ k. k.place) ks) i 0 ≡ (get_or (laid ks row) i e).place
 laid-place [] row i e h = absurd (omega (arith, h))
 laid-place (j ∷ ks) row zero e h = refl
 laid-place (j ∷ ks) row (suc i) e h = laid-place ks (drop j.length row) i e (omega (arith, h))

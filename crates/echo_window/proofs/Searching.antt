@@ -4,10 +4,10 @@ use borrow.Author.Tests.{ltb-false, ltb-true}
 use Rattle.std.proofs.lemmas.Bool.{and_parts, eq-eqb, eqb-true}
 use Rattle.std.proofs.lemmas.Bool.Decides.{eqb_tells}
 use Rattle.std.specs.List.{position}
-use Rattle.header_octets.specs.Octets.{is_same}
-use Rattle.header_octets.proofs.OctetsLemmas.{is_same-true}
+use Rattle.wire.specs.Octets.{is_same}
+use Rattle.wire.proofs.OctetsLemmas.{is_same-true}
 use Rattle.echo_window.specs.Bucket.{bucket_of}
-use Rattle.echo_window.specs.Echo.{Came, Record, first_met, is_awaited, is_echo_of, is_elsewhere, is_soon}
+use Rattle.echo_window.specs.Echo.{Arrival, Record, first_met, is_awaited, is_echo_of, is_elsewhere, is_soon}
 use Rattle.echo_window.specs.Index.{FindsFrom, IsAllAt, IsIndexed, IsLatest, alikes, befores, buckets, places}
 use Rattle.echo_window.specs.Laid.{laid}
 use Rattle.echo_window.specs.declared.kept.Kept.{Kept}
@@ -17,7 +17,7 @@ use Rattle.echo_window.proofs.Laying.{laid-length, laid-place}
 
 -- ---- the first from an index on
 
-module _ (test : Came → Bool) (came : List Came) (d : Came) where
+module _ (test : Arrival → Bool) (came : List Arrival) (d : Arrival) where
   pub finds-none : (begin : ℕ) → ((k : ℕ) → begin ≤ k → k < length came → test (get_or came k d) ≡ false) → FindsFrom test came d begin None
   finds-none begin h = h
 
@@ -72,7 +72,7 @@ neither : (a : Bool) → (a && false) ≡ false
 neither true = refl
 neither false = refl
 
-pub other-bucket : (w : ℕ) (m : Record) (c : Came) → bucket_of c.frame ≢ bucket_of m.frame → is_echo_of w m c ≡ false
+pub other-bucket : (w : ℕ) (m : Record) (c : Arrival) → bucket_of c.frame ≢ bucket_of m.frame → is_echo_of w m c ≡ false
 other-bucket w m c other = by (is_same c.frame m.frame) refl
   where
     by : (q : Bool) → is_same c.frame m.frame ≡ q → is_echo_of w m c ≡ false
@@ -80,18 +80,18 @@ other-bucket w m c other = by (is_same c.frame m.frame) refl
     by false apart = ap (λ q. (is_elsewhere m c && (is_soon w m c && is_awaited m c)) && q) apart ∙ neither (is_elsewhere m c && (is_soon w m c && is_awaited m c))
 
 -- a frame of the record's own place
-pub own-place : (w : ℕ) (m : Record) (c : Came) → c.place ≡ m.place → is_echo_of w m c ≡ false
+pub own-place : (w : ℕ) (m : Record) (c : Arrival) → c.place ≡ m.place → is_echo_of w m c ≡ false
 own-place w m c same = ap (λ p. (not (nat_eq p m.place) && (is_soon w m c && is_awaited m c)) && is_same c.frame m.frame) same ∙ ap (λ q. (not q && (is_soon w m c && is_awaited m c)) && is_same c.frame m.frame) (eq-eqb m.place m.place refl)
 
 -- no frame between two of a bucket is one that a record of that bucket is an echo of
-pub none-between : (gone end b number w : ℕ) (m : Record) (came : List Came) → b ≡ bucket_of m.frame → end ≤ length came → IsLatest gone (buckets came) end b number
+pub none-between : (gone end b number w : ℕ) (m : Record) (came : List Arrival) → b ≡ bucket_of m.frame → end ≤ length came → IsLatest gone (buckets came) end b number
     → (k : ℕ) → number - gone ≤ k → k < end → is_echo_of w m (get_or came k (first_met m)) ≡ false
 none-between gone end b number w m came is few h k l s =
     other-bucket w m (get_or came k (first_met m)) (λ same. h.none k s (omega (arith, l)) (bucket-at came k (first_met m) (omega (arith, s, few)) ∙ same ∙ sym is))
 
 -- ---- one step along a bucket
 
-pub record Goes (gone : ℕ) (came : List Came) (b w : ℕ) (m : Record) (number : ℕ) (found : Option ℕ) : Type 0 where
+pub record Goes (gone : ℕ) (came : List Arrival) (b w : ℕ) (m : Record) (number : ℕ) (found : Option ℕ) : Type 0 where
   pub few : number ≤ gone + length came
   pub own : gone < number → get_or (buckets came) (number - gone - 1) 0 ≡ b
   pub first : FindsFrom (is_echo_of w m) came (first_met m) (number - gone) found

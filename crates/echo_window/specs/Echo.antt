@@ -9,7 +9,7 @@
 use Rattle.std.specs.Prelude.{ℕ, ◌+◌, nat_eq, nat_lt, nat_le, ◌&&◌, not, if◌then◌else◌, Bool, false, true, List, []}
 use Rattle.std.specs.Prelude.{◌∷◌, ◌++◌, get_or, length, Option, Some, None, option_map, replicate, set, slice_index_or}
 use Rattle.std.specs.List.{find, flat_map, position}
-use Rattle.header_octets.specs.Octets.{is_same}
+use Rattle.wire.specs.Octets.{is_same}
 
 -- a record of a capture: the place where it was captured, its moment in nanoseconds, and the octets of its frame without tag
 pub record Record : Type 0 where
@@ -18,77 +18,77 @@ pub record Record : Type 0 where
   pub frame : List ℕ
 
 -- a frame that came in, which is a record that is no echo; and by the numbers of 256 places whether it was met again there
-pub record Came : Type 0 where
+pub record Arrival : Type 0 where
   pub place : ℕ
   pub moment : ℕ
   pub frame : List ℕ
   pub echoed : List Bool
 
 -- a record is of another place than a frame that came in
-abbrev pub is_elsewhere : Record → Came → Bool
+abbrev pub is_elsewhere : Record → Arrival → Bool
 is_elsewhere r c = not (nat_eq c.place r.place)
 
 -- it is no earlier, and at most so many nanoseconds later
-abbrev pub is_soon : ℕ → Record → Came → Bool
+abbrev pub is_soon : ℕ → Record → Arrival → Bool
 is_soon within r c = nat_le c.moment r.moment && nat_le r.moment (c.moment + within)
 
 -- the frame wasn't met again at that place yet
-abbrev pub is_awaited : Record → Came → Bool
+abbrev pub is_awaited : Record → Arrival → Bool
 is_awaited r c = not (get_or c.echoed r.place false)
 
 -- a record is an echo of a frame that came in: at another place, soon after, for the first time there, and octet for octet
-abbrev pub is_echo_of : ℕ → Record → Came → Bool
+abbrev pub is_echo_of : ℕ → Record → Arrival → Bool
 is_echo_of within r c = (is_elsewhere r c && (is_soon within r c && is_awaited r c)) && is_same c.frame r.frame
 
 -- frames without those in front that came in more than so many nanoseconds before a moment
-abbrev pub recent : ℕ → ℕ → List Came → List Came
+abbrev pub recent : ℕ → ℕ → List Arrival → List Arrival
 recent within moment [] = []
 recent within moment (c ∷ came) = if nat_lt (c.moment + within) moment then recent within moment came else c ∷ came
 
 -- how many octets frames have together
-abbrev pub octets_of : List Came → ℕ
+abbrev pub octets_of : List Arrival → ℕ
 octets_of came = length (flat_map (λ c. c.frame) came)
 
 -- at most 4,096 frames, of at most 4 MiB together
-abbrev pub fits : List Came → Bool
+abbrev pub fits : List Arrival → Bool
 fits came = nat_le (length came) 4096 && nat_le (octets_of came) 4194304
 
 -- the most of the latest frames that fit
-abbrev pub newest : List Came → List Came
+abbrev pub newest : List Arrival → List Arrival
 newest [] = []
 newest (c ∷ came) = if fits (c ∷ came) then c ∷ came else newest came
 
 -- a record that is no echo is a frame that came in, met nowhere else yet
-abbrev pub first_met : Record → Came
+abbrev pub first_met : Record → Arrival
 first_met r = record { place = r.place; moment = r.moment; frame = r.frame; echoed = replicate 256 false }
 
 -- a frame, met again at a place
-abbrev pub met_at : ℕ → Came → Came
+abbrev pub met_at : ℕ → Arrival → Arrival
 met_at place c = record { place = c.place; moment = c.moment; frame = c.frame; echoed = set c.echoed place true }
 
 -- frames, of which the one at an index was met again at the place of a record
-abbrev pub met_again : Record → List Came → ℕ → List Came
+abbrev pub met_again : Record → List Arrival → ℕ → List Arrival
 met_again r came i = set came i (met_at r.place (slice_index_or came i (first_met r)))
 
 -- where the frame came in that a record is an echo of, the earliest of several; None: the record is no echo
-abbrev pub echo_of : ℕ → List Came → Record → Option ℕ
+abbrev pub echo_of : ℕ → List Arrival → Record → Option ℕ
 echo_of within came r = option_map (λ c. c.place) (find (is_echo_of within r) came)
 
 -- what is kept of recent frames once a record was met: an echo's place with its frame; what is no echo as the latest frame
-abbrev pub with_met : ℕ → List Came → Record → List Came
+abbrev pub with_met : ℕ → List Arrival → Record → List Arrival
 with_met within came r = elim (position (is_echo_of within r) came)
     [ Some i ↦ met_again r came i | None ↦ newest (came ++ first_met r ∷ []) ]
 
 -- what is kept of all frames: those in front that came in too early for an echo at the record's moment are forgotten
-abbrev pub after : ℕ → List Came → Record → List Came
+abbrev pub after : ℕ → List Arrival → Record → List Arrival
 after within came r = with_met within (recent within r.moment came) r
 
 -- for each of some records in a row, where the frame came in that it is an echo of
-abbrev pub echoes : ℕ → List Came → List Record → List (Option ℕ)
+abbrev pub echoes : ℕ → List Arrival → List Record → List (Option ℕ)
 echoes within came [] = []
 echoes within came (r ∷ rs) = echo_of within came r ∷ echoes within (after within came r) rs
 
 -- what a window knows: how many nanoseconds later an echo may be, and the frames that came in, the earliest first
 pub record Window : Type 0 where
   pub within : ℕ
-  pub came : List Came
+  pub came : List Arrival

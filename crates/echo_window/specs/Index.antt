@@ -1,12 +1,12 @@
 -- Where the frames that are kept are looked for: by their buckets, from the latest to the earliest. It serves proofs.
 use Rattle.std.specs.Prelude.{◌≡◌, ◌≢◌, ◌<◌, ◌≤◌, ℕ, ◌+◌, ◌-◌, Bool, true, false, List, [], ◌∷◌, get_or, length, map, Option, Some, None, ⊤}
 use Rattle.echo_window.specs.Bucket.{bucket_of}
-use Rattle.echo_window.specs.Echo.{Came}
+use Rattle.echo_window.specs.Echo.{Arrival}
 use Rattle.echo_window.specs.Laid.{IsLaid, laid}
 use Rattle.echo_window.specs.declared.kept.Kept.{Kept}
 
 -- the buckets of frames
-abbrev pub buckets : List Came → List ℕ
+abbrev pub buckets : List Arrival → List ℕ
 buckets came = map (λ c. bucket_of c.frame) came
 
 -- what frames say comes before them
@@ -65,13 +65,13 @@ pub record IsBlank (latest : List ℕ) : Type 0 where
   pub none : (b : ℕ) → get_or latest b 0 ≡ 0
 
 -- the first frame from an index on for which a test holds
-pub record IsFirstFrom (test : Came → Bool) (came : List Came) (d : Came) (begin i : ℕ) : Type 0 where
+pub record IsFirstFrom (test : Arrival → Bool) (came : List Arrival) (d : Arrival) (begin i : ℕ) : Type 0 where
   pub inside : i < length came
   pub behind : begin ≤ i
   pub here : test (get_or came i d) ≡ true
   pub before : (k : ℕ) → begin ≤ k → k < i → test (get_or came k d) ≡ false
 
 -- that one, or that there is none
-abbrev pub FindsFrom : (Came → Bool) → List Came → Came → ℕ → Option ℕ → Type 0
+abbrev pub FindsFrom : (Arrival → Bool) → List Arrival → Arrival → ℕ → Option ℕ → Type 0
 FindsFrom test came d begin (Some i) = IsFirstFrom test came d begin i
 FindsFrom test came d begin None = (k : ℕ) → begin ≤ k → k < length came → test (get_or came k d) ≡ false

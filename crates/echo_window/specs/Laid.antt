@@ -1,6 +1,6 @@
 -- How a window keeps frames: their octets one behind the other in one row. It serves proofs.
 use Rattle.std.specs.Prelude.{◌≡◌, ◌≤◌, ℕ, ◌+◌, nat_lt, Bool, false, List, [], ◌∷◌, ◌++◌, drop, length, take}
-use Rattle.echo_window.specs.Echo.{Came, Record}
+use Rattle.echo_window.specs.Echo.{Arrival, Record}
 use Rattle.echo_window.specs.declared.kept.Kept.{Kept}
 use Rattle.echo_window.specs.declared.record.Record.{Record as Told}
 
@@ -9,7 +9,7 @@ abbrev pub told : Told → Record
 told r = record { place = r.place; moment = r.moment; frame = r.addresses.now ++ r.rest.now }
 
 -- a frame with its octets
-abbrev pub came_of : Kept → List ℕ → Came
+abbrev pub came_of : Kept → List ℕ → Arrival
 came_of k frame = record { place = k.place; moment = k.moment; frame = frame; echoed = k.echoed }
 
 -- how many octets frames have together
@@ -18,7 +18,7 @@ lengths [] = 0
 lengths (k ∷ ks) = k.length + lengths ks
 
 -- frames with their octets, which stand in one row
-abbrev pub laid : List Kept → List ℕ → List Came
+abbrev pub laid : List Kept → List ℕ → List Arrival
 laid [] row = []
 laid (k ∷ ks) row = came_of k (take k.length row) ∷ laid ks (drop k.length row)
 
@@ -30,6 +30,6 @@ pub record IsLaid (ks : List Kept) (row : List ℕ) (capacity : ℕ) : Type 0 wh
   pub reserved : 4096 ≤ capacity
 
 -- the first of some frames came in more than so many nanoseconds before a moment
-abbrev pub begins_past : ℕ → ℕ → List Came → Bool
+abbrev pub begins_past : ℕ → ℕ → List Arrival → Bool
 begins_past within moment [] = false
 begins_past within moment (c ∷ came) = nat_lt (c.moment + within) moment

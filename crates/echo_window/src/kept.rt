@@ -1,6 +1,6 @@
 //! A frame that came in, but for its octets.
 ghost use Rattle.std.specs.Prelude.{◌≡◌, ◌+◌, ◌&&◌, nat_eq, nat_lt, [], ◌++◌};
-ghost use Rattle.header_octets.specs.Octets.{is_same};
+ghost use Rattle.wire.specs.Octets.{is_same};
 ghost use Rattle.echo_window.specs.Echo.{is_awaited, is_echo_of, is_elsewhere, is_soon};
 ghost use Rattle.echo_window.specs.Laid.{came_of, told};
 

@@ -11,6 +11,11 @@
 //! it are those of the definition: those that came in at most so long before, of these the latest, at most 4,096 and 4 MiB of
 //! octets together. Only [`Window::new`] takes memory, some 4.5 MiB.
 //!
+//! Proved besides:
+//! - Whether a record of a capture is an echo of a frame that came in elsewhere at most so long before, and of the
+//!   earliest of several: `Window::meet`. What is kept are the frames that came in at most so long before the record,
+//!   of these the latest, 4,096 and 4 MiB at most.
+//!
 //! Why it is so: a frame that is sent on comes out within moments, so what came in earlier is forgotten, and a bound on what
 //! is kept costs nothing but where more comes in than fits. A frame is met again once at each place that it is sent to: so a
 //! frame that comes twice is two, whose echoes are paired in order. Octets are compared and not a digest of them: whoever

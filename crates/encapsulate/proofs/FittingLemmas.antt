@@ -1,20 +1,20 @@
 -- A frame is too big exactly where its packet is longer than the MTU.
 use Rattle.std.proofs.Common.{◌≡◌, ℕ, ◌+◌, ◌<◌, ◌≤◌, Bool, true, false, ◌&&◌, ltb, List, [], ◌∷◌, length, Some, refl, sym, ap, ◌∙◌, subst, arith, inl, inr}
 use Rattle.std.proofs.lemmas.Bool.{cases_Bool, ltb-true, ltb-false}
-use Rattle.frame_view.specs.First.{first}
-use Rattle.frame_view.specs.Frame.{Frame, IsFrame, size}
-use Rattle.frame_view.specs.Tag.{begins_tag}
-use Rattle.frame_view.specs.declared.reason.Reason.TheVariants.{TooBig, InnerTagOut}
-use Rattle.frame_view.proofs.FirstLemmas.{first-here}
-use Rattle.ip_udp_view.specs.declared.addr.Addr.{Addr}
-use Rattle.ip_udp_view.specs.declared.addr.Addr.TheVariants.{V4, V6}
-use Rattle.ip_udp_view.specs.declared.addr.Tunnel.{Tunnel}
-use Rattle.ip_udp_view.specs.Addr.{IsAddr}
-use Rattle.flood_lists.specs.Flood.{own_of}
-use Rattle.underlay.specs.declared.settings.Underlay.{Underlay}
-use Rattle.underlay.specs.declared.tunnels.SegmentTunnel.{SegmentTunnel}
-use Rattle.underlay.specs.Overlay.{Overlay, tunnel_at}
-use Rattle.underlay.specs.Settings.{own, port_of}
+use Rattle.wire.specs.First.{first}
+use Rattle.wire.specs.Frame.{Frame, IsFrame, size}
+use Rattle.wire.specs.Tag.{begins_tag}
+use Rattle.wire.specs.declared.ether.reason.Reason.TheVariants.{TooBig, InnerTagOut}
+use Rattle.wire.proofs.FirstLemmas.{first-here}
+use Rattle.wire.specs.declared.ip_udp.addr.Addr.{Addr}
+use Rattle.wire.specs.declared.ip_udp.addr.Addr.TheVariants.{V4, V6}
+use Rattle.wire.specs.declared.ip_udp.addr.Tunnel.{Tunnel}
+use Rattle.wire.specs.Addr.{IsAddr}
+use Rattle.overlay.specs.Flood.{own_of}
+use Rattle.overlay.specs.declared.underlay.settings.Underlay.{Underlay}
+use Rattle.overlay.specs.declared.underlay.tunnels.SegmentTunnel.{SegmentTunnel}
+use Rattle.overlay.specs.Overlay.{Overlay, tunnel_at}
+use Rattle.overlay.specs.UnderlaySettings.{own, port_of}
 use Rattle.encapsulate.specs.Flow.{source_port}
 use Rattle.encapsulate.specs.Packet.{tunnelled}
 use Rattle.encapsulate.specs.Remote.{largest, drops_tags_at, admits, packet_from, remote_text}

@@ -1,7 +1,7 @@
 -- What a body adds to the sum of a flow.
 use Rattle.std.proofs.Common.{◌≡◌, ℕ, true, false, List, drop, ◌∙◌}
 use Rattle.std.proofs.lemmas.Bool.{cond-true, cond-false}
-use Rattle.ip_udp_view.specs.Ip.{Ip4, Ip6}
+use Rattle.wire.specs.Ip.{Ip4, Ip6}
 use Rattle.encapsulate.specs.Flow.{shows_flow, ports_sum, inner_sum}
 
 pub inner-ip4 : (body : List ℕ) → shows_flow Ip4 body ≡ true → inner_sum body ≡ ports_sum Ip4 (drop 2 body)

@@ -2,12 +2,12 @@
 use Rattle.std.proofs.Common.{◌≡◌, ◌∙◌, sym, ap, ◌-◌, List, ℕ, [], ◌++◌, length, take, arith, append_assoc, length-append, Option, Some, None, Result, Ok, Err}
 use Rattle.std.specs.Prelude.{IsErrAnd}
 use Rattle.std.proofs.Math.Seq.{take-append_seam}
-use Rattle.frame_view.specs.Frame.{Frame, plain}
-use Rattle.frame_view.specs.declared.reason.Reason.{Reason}
-use Rattle.frame_view.proofs.FirstLemmas.{same_Ok}
-use Rattle.ip_udp_view.specs.declared.addr.Addr.{Addr}
-use Rattle.ip_udp_view.specs.declared.addr.Tunnel.{Tunnel}
-use Rattle.underlay.specs.Overlay.{Overlay}
+use Rattle.wire.specs.Frame.{Frame, plain}
+use Rattle.wire.specs.declared.ether.reason.Reason.{Reason}
+use Rattle.wire.proofs.FirstLemmas.{same_Ok}
+use Rattle.wire.specs.declared.ip_udp.addr.Addr.{Addr}
+use Rattle.wire.specs.declared.ip_udp.addr.Tunnel.{Tunnel}
+use Rattle.overlay.specs.Overlay.{Overlay}
 use Rattle.encapsulate.specs.Emission.{Parts, text, around}
 use Rattle.encapsulate.specs.Remote.{admits, before, parts_behind, remote_text, sending, sending_parts, text_behind}
 

@@ -2,14 +2,14 @@
 use Rattle.std.proofs.Common.{◌≡◌, ℕ, Bool, List, [], Option, Some, None, sym, ap, ◌∙◌}
 use Rattle.std.specs.Option.{option_map, option_map_or, option_and_then}
 use Rattle.std.proofs.lemmas.Option.{none-some, same_Some}
-use Rattle.frame_view.specs.Frame.{Frame}
-use Rattle.ip_udp_view.specs.declared.addr.Addr.{Addr}
-use Rattle.ip_udp_view.specs.declared.addr.Tunnel.{Tunnel}
-use Rattle.outer_head.specs.Template.{Fixed}
-use Rattle.underlay.specs.declared.settings.Underlay.{Underlay}
-use Rattle.underlay.specs.declared.tunnels.SegmentTunnel.{SegmentTunnel}
-use Rattle.underlay.specs.Heads.{fixed}
-use Rattle.underlay.specs.Settings.{hop_to}
+use Rattle.wire.specs.Frame.{Frame}
+use Rattle.wire.specs.declared.ip_udp.addr.Addr.{Addr}
+use Rattle.wire.specs.declared.ip_udp.addr.Tunnel.{Tunnel}
+use Rattle.wire.specs.OuterTemplate.{Fixed}
+use Rattle.overlay.specs.declared.underlay.settings.Underlay.{Underlay}
+use Rattle.overlay.specs.declared.underlay.tunnels.SegmentTunnel.{SegmentTunnel}
+use Rattle.overlay.specs.Heads.{fixed}
+use Rattle.overlay.specs.UnderlaySettings.{hop_to}
 use Rattle.encapsulate.specs.Flow.{source_port}
 use Rattle.encapsulate.specs.Remote.{packet_from}
 

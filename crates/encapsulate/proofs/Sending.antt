@@ -4,22 +4,22 @@ use Rattle.std.specs.Prelude.{IfSome, unwrap_or}
 use Rattle.std.specs.FinMap.{get}
 use Rattle.std.proofs.lemmas.Bool.{ltb-false, cond_both}
 use Rattle.std.proofs.lemmas.List.{length-append, length-drop, take_at, drop_at, append-nil, take_all}
-use Rattle.header_octets.specs.Octets.{octets}
-use Rattle.header_octets.specs.Sum.{total, folded, sent}
-use Rattle.header_octets.proofs.SumLemmas.{check-completes, sent-completes_behind, sent-below}
-use Rattle.frame_view.specs.Frame.{Frame, IsFrame, size}
-use Rattle.frame_view.proofs.FirstLemmas.{NothingHolds-from}
-use Rattle.ip_udp_view.specs.declared.addr.Addr.{Addr}
-use Rattle.ip_udp_view.specs.declared.addr.Addr.TheVariants.{V4, V6}
-use Rattle.ip_udp_view.specs.declared.addr.Tunnel.{Tunnel}
-use Rattle.ip_udp_view.specs.declared.addr.Tunnel.TheVariants.{Vxlan, Geneve}
-use Rattle.ip_udp_view.specs.Addr.{IsAddr, address, is_group, group_mac}
-use Rattle.ip_udp_view.specs.Ip.{Family, Ip4, Ip6}
-use Rattle.ip_udp_view.specs.Udp.{udp_header, pseudo}
-use Rattle.ip_udp_view.specs.Datagram.{IsUdpCarrier, Datagram, ether_type}
-use Rattle.underlay.specs.declared.settings.Underlay.{Underlay}
-use Rattle.underlay.specs.Overlay.{Overlay}
-use Rattle.underlay.specs.Settings.{hop_to}
+use Rattle.wire.specs.Octets.{octets}
+use Rattle.wire.specs.Sum.{total, folded, sent}
+use Rattle.wire.proofs.SumLemmas.{check-completes, sent-completes_behind, sent-below}
+use Rattle.wire.specs.Frame.{Frame, IsFrame, size}
+use Rattle.wire.proofs.FirstLemmas.{NothingHolds-from}
+use Rattle.wire.specs.declared.ip_udp.addr.Addr.{Addr}
+use Rattle.wire.specs.declared.ip_udp.addr.Addr.TheVariants.{V4, V6}
+use Rattle.wire.specs.declared.ip_udp.addr.Tunnel.{Tunnel}
+use Rattle.wire.specs.declared.ip_udp.addr.Tunnel.TheVariants.{Vxlan, Geneve}
+use Rattle.wire.specs.Addr.{IsAddr, address, is_group, group_mac}
+use Rattle.wire.specs.Ip.{Family, Ip4, Ip6}
+use Rattle.wire.specs.Udp.{udp_header, pseudo}
+use Rattle.wire.specs.Datagram.{IsUdpCarrier, Datagram, ether_type}
+use Rattle.overlay.specs.declared.underlay.settings.Underlay.{Underlay}
+use Rattle.overlay.specs.Overlay.{Overlay}
+use Rattle.overlay.specs.UnderlaySettings.{hop_to}
 use Rattle.encapsulate.specs.Flow.{source_port}
 use Rattle.encapsulate.specs.Packet.{tunnelled, sum_sent, udp_sent, ip4_sent, ip6_sent, packet}
 use Rattle.encapsulate.specs.Remote.{unsent_reasons, admits}

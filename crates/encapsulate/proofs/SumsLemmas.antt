@@ -1,8 +1,8 @@
 -- The sum of a frame.
 use Rattle.std.proofs.Common.{◌≡◌, ℕ, ◌+◌, ◌%◌, List, ◌++◌, length, sym, ap, ◌∙◌, arith, append_assoc}
-use Rattle.header_octets.specs.Sum.{total, folded}
-use Rattle.header_octets.proofs.SumLemmas.{total-append_even}
-use Rattle.header_octets.proofs.FoldLemmas.{folded-added}
+use Rattle.wire.specs.Sum.{total, folded}
+use Rattle.wire.proofs.SumLemmas.{total-append_even}
+use Rattle.wire.proofs.FoldLemmas.{folded-added}
 
 -- from its addresses and its folded body
 pub frame-sum : (dst src body addresses : List ℕ) (x : ℕ) → addresses ≡ dst ++ src → length addresses ≡ 12 → x ≡ folded (total addresses + folded (total body)) → x ≡ folded (total (dst ++ (src ++ body)))

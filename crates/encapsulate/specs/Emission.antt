@@ -1,9 +1,9 @@
 -- What is sent: a text in four parts. It states no standard.
 use Rattle.std.specs.Prelude.{ℕ, List, [], ◌++◌}
-use Rattle.frame_view.specs.Frame.{Frame, plain, tagged}
-use Rattle.frame_view.specs.Tag.{tag_text, tci_of}
-use Rattle.vlan_ports.specs.declared.member.Egress.{Egress}
-use Rattle.vlan_ports.specs.declared.member.Egress.TheVariants.{Tagged, Untagged}
+use Rattle.wire.specs.Frame.{Frame, plain, tagged}
+use Rattle.wire.specs.Tag.{tag_text, tci_of}
+use Rattle.overlay.specs.declared.ports.member.Egress.{Egress}
+use Rattle.overlay.specs.declared.ports.member.Egress.TheVariants.{Tagged, Untagged}
 
 -- an emission, in the order in which it is sent: outer headers, the addresses of the frame, a tag, the frame's body
 pub record Parts : Type 0 where

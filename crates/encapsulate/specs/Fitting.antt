@@ -1,12 +1,12 @@
 -- The rule on sizes, as one on whole packets. It states no standard.
 use Rattle.std.specs.Prelude.{◌≡◌, ◌<◌, ◌↔◌, ℕ, ◌+◌, length, Some}
-use Rattle.frame_view.specs.Frame.{Frame, IsFrame}
-use Rattle.frame_view.specs.declared.reason.Reason.TheVariants.{TooBig}
-use Rattle.ip_udp_view.specs.declared.addr.Addr.{Addr}
-use Rattle.ip_udp_view.specs.declared.addr.Tunnel.{Tunnel}
-use Rattle.ip_udp_view.specs.Addr.{IsAddr}
-use Rattle.underlay.specs.declared.tunnels.SegmentTunnel.{SegmentTunnel}
-use Rattle.underlay.specs.Overlay.{Overlay, tunnel_at}
+use Rattle.wire.specs.Frame.{Frame, IsFrame}
+use Rattle.wire.specs.declared.ether.reason.Reason.TheVariants.{TooBig}
+use Rattle.wire.specs.declared.ip_udp.addr.Addr.{Addr}
+use Rattle.wire.specs.declared.ip_udp.addr.Tunnel.{Tunnel}
+use Rattle.wire.specs.Addr.{IsAddr}
+use Rattle.overlay.specs.declared.underlay.tunnels.SegmentTunnel.{SegmentTunnel}
+use Rattle.overlay.specs.Overlay.{Overlay, tunnel_at}
 use Rattle.encapsulate.specs.Sender.{own_addr, IsUnderlay}
 use Rattle.encapsulate.specs.Remote.{admits, remote_text}
 

@@ -1,12 +1,12 @@
 -- The flow that a frame belongs to, and the UDP source port by it, so that routers spread flows over their ways (RFC 7348,
 -- 5; RFC 8926, 3.3).
 use Rattle.std.specs.Prelude.{ℕ, ◌+◌, ◌%◌, ◌==◌, ◌&&◌, ◌||◌, nat_le, Bool, not, if◌then◌else◌, List, length, take, drop}
-use Rattle.header_octets.specs.Octets.{part}
-use Rattle.header_octets.specs.Sum.{total, folded}
-use Rattle.frame_view.specs.Frame.{Frame}
-use Rattle.ip_udp_view.specs.Addr.{address}
-use Rattle.ip_udp_view.specs.Datagram.{has_type}
-use Rattle.ip_udp_view.specs.Ip.{Family, Ip4, Ip6, version, ihl, header_length, is_fragment, protocol, source, destination}
+use Rattle.wire.specs.Octets.{part}
+use Rattle.wire.specs.Sum.{total, folded}
+use Rattle.wire.specs.Frame.{Frame}
+use Rattle.wire.specs.Addr.{address}
+use Rattle.wire.specs.Datagram.{has_type}
+use Rattle.wire.specs.Ip.{Family, Ip4, Ip6, version, ihl, header_length, is_fragment, protocol, source, destination}
 
 -- TCP and UDP, whose headers begin with two ports of two octets each
 abbrev pub has_ports : ℕ → Bool

@@ -1,11 +1,11 @@
 -- An outer packet as it is sent by the settings of an endpoint. It states no standard.
 use Rattle.std.specs.Prelude.{ℕ, List}
-use Rattle.ip_udp_view.specs.declared.addr.Addr.{Addr}
-use Rattle.ip_udp_view.specs.declared.addr.Addr.TheVariants.{V4, V6}
-use Rattle.underlay.specs.declared.settings.Underlay.{Underlay}
-use Rattle.underlay.specs.Settings.{hop_to}
-pub use Rattle.outer_head.specs.Packet.{tunnel_header, tunnelled, frame_sum, sum_sent, udp_sent}
-pub use Rattle.outer_head.specs.Packet.{ip4_header, ip4_sent, ip6_sent, packet4, packet6}
+use Rattle.wire.specs.declared.ip_udp.addr.Addr.{Addr}
+use Rattle.wire.specs.declared.ip_udp.addr.Addr.TheVariants.{V4, V6}
+use Rattle.overlay.specs.declared.underlay.settings.Underlay.{Underlay}
+use Rattle.overlay.specs.UnderlaySettings.{hop_to}
+pub use Rattle.wire.specs.OuterPacket.{tunnel_header, tunnelled, frame_sum, sum_sent, udp_sent}
+pub use Rattle.wire.specs.OuterPacket.{ip4_header, ip4_sent, ip6_sent, packet4, packet6}
 
 -- the packet with a UDP datagram with data d, from the own address of these octets to an address of its family
 abbrev pub packet : Underlay → List ℕ → Addr → ℕ → ℕ → List ℕ → List ℕ

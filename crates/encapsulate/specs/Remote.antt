@@ -2,18 +2,18 @@
 use Rattle.std.specs.Prelude.{ℕ, ◌-◌, ◌&&◌, nat_lt, Bool, false, List, [], ◌∷◌, length, take}
 use Rattle.std.specs.Prelude.{Option, Some, None, Result, Ok, Err}
 use Rattle.std.specs.Option.{option_map_or}
-use Rattle.frame_view.specs.First.{first}
-use Rattle.frame_view.specs.Frame.{Frame, plain, size}
-use Rattle.frame_view.specs.Tag.{begins_tag}
-use Rattle.frame_view.specs.declared.reason.Reason.{Reason}
-use Rattle.frame_view.specs.declared.reason.Reason.TheVariants.{TooBig, InnerTagOut}
-use Rattle.ip_udp_view.specs.declared.addr.Addr.{Addr}
-use Rattle.ip_udp_view.specs.declared.addr.Addr.TheVariants.{V4, V6}
-use Rattle.ip_udp_view.specs.declared.addr.Tunnel.{Tunnel}
-use Rattle.flood_lists.specs.Flood.{own_of}
-use Rattle.underlay.specs.declared.settings.Underlay.{Underlay}
-use Rattle.underlay.specs.Overlay.{Overlay, segment_at, tunnel_at, drops_tags}
-use Rattle.underlay.specs.Settings.{own, port_of}
+use Rattle.wire.specs.First.{first}
+use Rattle.wire.specs.Frame.{Frame, plain, size}
+use Rattle.wire.specs.Tag.{begins_tag}
+use Rattle.wire.specs.declared.ether.reason.Reason.{Reason}
+use Rattle.wire.specs.declared.ether.reason.Reason.TheVariants.{TooBig, InnerTagOut}
+use Rattle.wire.specs.declared.ip_udp.addr.Addr.{Addr}
+use Rattle.wire.specs.declared.ip_udp.addr.Addr.TheVariants.{V4, V6}
+use Rattle.wire.specs.declared.ip_udp.addr.Tunnel.{Tunnel}
+use Rattle.overlay.specs.Flood.{own_of}
+use Rattle.overlay.specs.declared.underlay.settings.Underlay.{Underlay}
+use Rattle.overlay.specs.Overlay.{Overlay, segment_at, tunnel_at, drops_tags}
+use Rattle.overlay.specs.UnderlaySettings.{own, port_of}
 use Rattle.encapsulate.specs.Emission.{Parts, text, around}
 use Rattle.encapsulate.specs.Flow.{source_port}
 use Rattle.encapsulate.specs.Packet.{tunnelled, packet}

@@ -2,10 +2,10 @@
 use Rattle.std.specs.Prelude.{◌≡◌, ◌≢◌, ◌<◌, ℕ, ◌^◌, true, false, List, length, Option, IfSome}
 use Rattle.std.specs.Option.{option_map}
 use Rattle.std.specs.FinMap.{get}
-use Rattle.ip_udp_view.specs.declared.addr.Addr.{Addr}
-use Rattle.ip_udp_view.specs.declared.addr.Addr.TheVariants.{V4, V6}
-use Rattle.ip_udp_view.specs.Addr.{IsAddr, is_group, is_usable}
-use Rattle.underlay.specs.declared.settings.Underlay.{Underlay}
+use Rattle.wire.specs.declared.ip_udp.addr.Addr.{Addr}
+use Rattle.wire.specs.declared.ip_udp.addr.Addr.TheVariants.{V4, V6}
+use Rattle.wire.specs.Addr.{IsAddr, is_group, is_usable}
+use Rattle.overlay.specs.declared.underlay.settings.Underlay.{Underlay}
 
 -- the own address of the family of an address
 abbrev pub own_addr : Underlay → Addr → Option Addr

@@ -1,6 +1,6 @@
 -- What all packets with one frame share. It states no standard.
 use Rattle.std.specs.Prelude.{◌≡◌, IfSome}
-use Rattle.frame_view.specs.Frame.{Frame}
+use Rattle.wire.specs.Frame.{Frame}
 use Rattle.encapsulate.specs.declared.sums.FrameSums.{FrameSums}
 use Rattle.encapsulate.specs.Flow.{source_port}
 use Rattle.encapsulate.specs.Packet.{frame_sum}

@@ -8,13 +8,13 @@ ghost use Rattle.std.specs.Prelude.{◌≡◌, ◌<◌, ◌≤◌, ◌⊎◌, �
 ghost use Rattle.std.specs.Prelude.{vec_len, vec_capacity};
 ghost use Rattle.std.specs.List.{concat};
 ghost use Rattle.encapsulate.specs.Emission.{no_parts, text, around, local_text, local_parts, local_tag};
-ghost use Rattle.vlan_ports.specs.declared.member.Egress.TheVariants.{Tagged};
+ghost use Rattle.overlay.specs.declared.ports.member.Egress.TheVariants.{Tagged};
 
-use frame_view::{BridgeFrame, CUSTOMER_TAG, Vid};
-use outer_head::Head;
+use overlay::ports::Egress;
 use std::alloc::AllocError;
 use std::marker::Model;
-use vlan_ports::Egress;
+use wire::ether::{BridgeFrame, CUSTOMER_TAG, Vid};
+use wire::outer::Head;
 
 /// The octets of a tag.
 const TAG: usize = 4;

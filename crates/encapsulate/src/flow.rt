@@ -1,14 +1,14 @@
 //! The flow that a frame belongs to.
 ghost use Rattle.std.specs.Prelude.{◌≡◌, ◌≤◌, ◌+◌, ◌^◌, length, drop, IsTrue};
-ghost use Rattle.header_octets.specs.Sum.{total};
-ghost use Rattle.ip_udp_view.specs.Datagram.{has_type};
-ghost use Rattle.ip_udp_view.specs.Ip.{Ip4, Ip6, is_fragment};
+ghost use Rattle.wire.specs.Sum.{total};
+ghost use Rattle.wire.specs.Datagram.{has_type};
+ghost use Rattle.wire.specs.Ip.{Ip4, Ip6, is_fragment};
 ghost use Rattle.encapsulate.specs.Flow.{has_ports, shows_ports, shows_flow, ports_sum, inner_sum, source_port};
 
 use byteorder::{BigEndian, ByteOrder};
-use frame_view::BridgeFrame;
-use header_octets::{fold, words};
-use ip_udp_view::{IP4_TYPE, IP6_TYPE, UDP};
+use wire::ether::BridgeFrame;
+use wire::ip_udp::{IP4_TYPE, IP6_TYPE, UDP};
+use wire::octets::{fold, words};
 
 /// The octets of an IPv4 header without options.
 const IP4_HEADER: usize = 20;

@@ -3,13 +3,13 @@
 //! [`wrap`] takes the kind of tunnel and the address side by side. Its conditions are that the segment has a tunnel of the
 //! kind and the endpoint an address of the family; outside them the definition of the packet is the empty text.
 ghost use Rattle.std.specs.Prelude.{◌≡◌, ◌+◌, ◌++◌, ◌≤◌, [], ℕ, List, Some, IsTrue, IsNone, IfOk, is_some, length};
-ghost use Rattle.frame_view.specs.Tag.{begins_tag};
-ghost use Rattle.flood_lists.specs.Flood.{has_family, own_of};
-ghost use Rattle.underlay.specs.Overlay.{has_segment, tunnel_at};
-ghost use Rattle.underlay.specs.Settings.{own};
+ghost use Rattle.wire.specs.Tag.{begins_tag};
+ghost use Rattle.overlay.specs.Flood.{has_family, own_of};
+ghost use Rattle.overlay.specs.Overlay.{has_segment, tunnel_at};
+ghost use Rattle.overlay.specs.UnderlaySettings.{own};
 ghost use Rattle.encapsulate.specs.Emission.{around};
-ghost use Rattle.frame_view.specs.Frame.{Frame, plain};
-ghost use Rattle.ip_udp_view.specs.declared.addr.Tunnel.{Tunnel};
+ghost use Rattle.wire.specs.Frame.{Frame, plain};
+ghost use Rattle.wire.specs.declared.ip_udp.addr.Tunnel.{Tunnel};
 ghost use Rattle.encapsulate.specs.Remote.{admits, drops_tags_at, headers, largest, packet_from, remote_text};
 ghost use Rattle.encapsulate.specs.Remote.{sending, sending_parts, sizes, text_behind, texts};
 ghost use Rattle.encapsulate.specs.Sums.{AreSums};
@@ -17,10 +17,10 @@ ghost use Rattle.encapsulate.specs.Sums.{AreSums};
 use crate::emission::Emission;
 use crate::sums::FrameSums;
 use byteorder::{BigEndian, ByteOrder};
-use frame_view::{BridgeFrame, CUSTOMER_TAG, Mac, Reason, Vid};
-use ip_udp_view::{Addr, Tunnel};
-use outer_head::Head;
-use underlay::{TagRule, Under, Underlay};
+use overlay::underlay::{Overlay, TagRule, Underlay};
+use wire::ether::{BridgeFrame, CUSTOMER_TAG, Mac, Reason, Vid};
+use wire::ip_udp::{Addr, Tunnel};
+use wire::outer::Head;
 
 /// The octets of the outer IPv4, UDP and tunnel headers.
 const IP4_HEADERS: u16 = 36;
@@ -42,7 +42,7 @@ const OTHER_FIELDS: usize = 18;
 /// `TooBig`: the outer IP packet would be longer than the MTU. `InnerTagOut`: the body begins with a tag, and the
 /// segment drops those (RFC 7348, 6.1).
 pub fn wrap<'a>(
-    under: &Under,
+    under: &Overlay,
     vid: Vid,
     kind: Tunnel,
     addr: Addr,
@@ -67,7 +67,7 @@ pub fn wrap<'a>(
 ///
 /// `TooBig`, `InnerTagOut`: nothing is sent, and what stands in the head says nothing.
 pub fn put_head(
-    under: &Under,
+    under: &Overlay,
     vid: Vid,
     kind: Tunnel,
     addr: Addr,
@@ -89,7 +89,7 @@ pub fn put_head(
 
 /// Writes the headers of the packet to an address that the frame is sent to over a head.
 fn write_head(
-    under: &Under,
+    under: &Overlay,
     vid: Vid,
     kind: Tunnel,
     addr: Addr,
@@ -125,7 +125,7 @@ fn write_head(
 ///
 /// `TooBig`, `InnerTagOut`: nothing is sent.
 pub fn packet_size(
-    under: &Under,
+    under: &Overlay,
     vid: Vid,
     kind: Tunnel,
     addr: Addr,
@@ -164,7 +164,7 @@ fn own_mac(underlay: &Underlay) -> Mac
 }
 
 /// Why a frame of a segment isn't sent to an address.
-pub fn unsent(under: &Under, vid: Vid, addr: Addr, frame: &BridgeFrame) -> Option<Reason>
+pub fn unsent(under: &Overlay, vid: Vid, addr: Addr, frame: &BridgeFrame) -> Option<Reason>
     requires there { IsTrue (has_segment under.now vid) }
     ensures value { result ≡ admits under.now vid addr frame.now }
     ensures fits { IsNone result → 48 + length frame.now.body ≤ 65535 }
@@ -208,7 +208,7 @@ pub fn begins_tag(body: &[u8]) -> bool
 }
 
 /// Whether a segment drops frames in tunnels that begin with a tag.
-fn drops_tags(under: &Under, vid: Vid) -> bool
+fn drops_tags(under: &Overlay, vid: Vid) -> bool
     requires there { IsTrue (has_segment under.now vid) }
     ensures { result ≡ drops_tags_at under.now vid }
 {

@@ -4,13 +4,13 @@
 //! where one of them gets a checksum. A further remote of a frame of 1,400 octets costs 171 instructions in place of 586, a
 //! single one 714 in place of 643.
 ghost use Rattle.std.specs.Prelude.{◌≡◌, ◌≤◌, ◌+◌, ◌++◌, ◌^◌, IfSome, is_some};
-ghost use Rattle.header_octets.specs.Sum.{total};
+ghost use Rattle.wire.specs.Sum.{total};
 ghost use Rattle.encapsulate.specs.Packet.{frame_sum};
 ghost use Rattle.encapsulate.specs.Sums.{AreSums};
 
 use crate::flow::source_port;
-use frame_view::BridgeFrame;
-use header_octets::{fold, folded, words};
+use wire::ether::BridgeFrame;
+use wire::octets::{fold, folded, words};
 
 /// What depends on a frame alone in the packets that it is sent in, computed once for all of them: the source port of
 /// its flow, and the folded sum of its octets, where it was taken.

@@ -6,27 +6,27 @@ use Rattle.std.specs.Option.{option_and_then, option_map_or}
 use Rattle.std.specs.Cmp.{nat_cmp_total}
 use Rattle.std.specs.FinMap.{entries, entries_sorted, get-entries}
 use Rattle.std.proofs.lemmas.Bool.{false≢true}
-use Rattle.frame_view.specs.First.{first}
-use Rattle.frame_view.specs.Frame.{Frame, frame_of, frame_behind_tag}
-use Rattle.frame_view.specs.Ether.{has_tag}
-use Rattle.frame_view.proofs.FirstLemmas.{NothingHolds-from, unless-ok, same_Ok}
-use Rattle.frame_view.proofs.RefusalLemmas.{refused-ok}
-use Rattle.ip_udp_view.specs.declared.addr.Addr.{Addr}
-use Rattle.ip_udp_view.specs.declared.addr.Addr.TheVariants.{V4, V6}
-use Rattle.ip_udp_view.specs.declared.addr.Tunnel.{Tunnel}
-use Rattle.ip_udp_view.specs.Addr.{same_kind, same_addr, same_family, is_group}
-use Rattle.ip_udp_view.specs.Ip.{Family, Ip4, Ip6, source, destination}
-use Rattle.flood_lists.specs.Flood.{Entries, has_family, is_own, is_there, own_of, is_entry, holds}
-use Rattle.flood_lists.specs.declared.own.Own.{Own}
-use Rattle.vlan_ports.specs.Ports.{Ports, has_segment as has_members}
-use Rattle.vlan_ports.specs.Ingress.{enters, reasons, vid_at, frame_in}
-use Rattle.underlay.specs.Overlay.{Overlay, has_tunnel, segment_by, segment_at, tunnel_of, tunnel_at, has_segment, flood_at, floods}
-use Rattle.underlay.specs.Settings.{own}
-use Rattle.underlay.specs.declared.segment.Segment.{Segment}
-use Rattle.underlay.proofs.CountLemmas.{found_where}
+use Rattle.wire.specs.First.{first}
+use Rattle.wire.specs.Frame.{Frame, frame_of, frame_behind_tag}
+use Rattle.wire.specs.Ether.{has_tag}
+use Rattle.wire.proofs.FirstLemmas.{NothingHolds-from, unless-ok, same_Ok}
+use Rattle.wire.proofs.RefusalLemmas.{refused-ok}
+use Rattle.wire.specs.declared.ip_udp.addr.Addr.{Addr}
+use Rattle.wire.specs.declared.ip_udp.addr.Addr.TheVariants.{V4, V6}
+use Rattle.wire.specs.declared.ip_udp.addr.Tunnel.{Tunnel}
+use Rattle.wire.specs.Addr.{same_kind, same_addr, same_family, is_group}
+use Rattle.wire.specs.Ip.{Family, Ip4, Ip6, source, destination}
+use Rattle.overlay.specs.Flood.{Entries, has_family, is_own, is_there, own_of, is_entry, holds}
+use Rattle.overlay.specs.declared.flood.own.Own.{Own}
+use Rattle.overlay.specs.Ports.{Ports, has_segment as has_members}
+use Rattle.overlay.specs.Ingress.{enters, reasons, vid_at, frame_in}
+use Rattle.overlay.specs.Overlay.{Overlay, has_tunnel, segment_by, segment_at, tunnel_of, tunnel_at, has_segment, flood_at, floods}
+use Rattle.overlay.specs.UnderlaySettings.{own}
+use Rattle.overlay.specs.declared.underlay.segment.Segment.{Segment}
+use Rattle.overlay.proofs.CountLemmas.{found_where}
 use Rattle.decapsulate.specs.Arrival.{arrival, arrival_by, arrival_in, outer_reasons, inner_reasons, packet_in, kind_to, vni_of, inner_of}
 use Rattle.decapsulate.specs.declared.arrived.Arrived.{Arrived}
-use Rattle.endpoint_state.specs.Sound.{reaches}
+use Rattle.endpoint_core.specs.Sound.{reaches}
 
 -- ---- by a local port
 

@@ -5,24 +5,24 @@ use Rattle.std.proofs.lemmas.List.FromFn.{length-map-range_with_len}
 use Rattle.std.proofs.lemmas.List.Sums.{count_by-le-length, length-filter}
 use Rattle.std.specs.List.{filter, range_with_len}
 use Rattle.std.specs.Option.{option_and_then, option_map, option_map_or}
-use Rattle.frame_view.specs.Frame.{Frame}
-use Rattle.frame_view.specs.Tag.{IsVid}
-use Rattle.frame_view.specs.declared.reason.Reason.{Reason}
-use Rattle.frame_view.specs.declared.reason.Reason.TheVariants.{Horizon, SamePlace, Unreachable}
-use Rattle.frame_view.specs.declared.reason.Refused.{Refused}
-use Rattle.frame_view.proofs.FirstLemmas.{same_Ok}
+use Rattle.wire.specs.Frame.{Frame}
+use Rattle.wire.specs.Tag.{IsVid}
+use Rattle.wire.specs.declared.ether.reason.Reason.{Reason}
+use Rattle.wire.specs.declared.ether.reason.Reason.TheVariants.{Horizon, SamePlace, Unreachable}
+use Rattle.wire.specs.declared.ether.reason.Refused.{Refused}
+use Rattle.wire.proofs.FirstLemmas.{same_Ok}
 use Rattle.filter_db.specs.declared.place.Place.{Place}
 use Rattle.filter_db.specs.declared.place.Place.TheVariants.{Local}
 use Rattle.filter_db.specs.Place.{same_place}
 use Rattle.filter_db.specs.Table.{Table}
-use Rattle.vlan_ports.specs.Ports.{Members, Ports}
-use Rattle.underlay.specs.declared.segment.Segment.{Segment}
+use Rattle.overlay.specs.Ports.{Members, Ports}
+use Rattle.overlay.specs.declared.underlay.segment.Segment.{Segment}
 use Rattle.tunnel_learning.specs.Bridge.{Config, in_one_group, is_local_outlet, is_remote_outlet, is_shut, local_places, or_no_outlet, everywhere, place_of, remote_places, to_place, toward}
-use Rattle.endpoint_state.specs.Settings.{BridgeSettings, Settings, joined}
-use Rattle.endpoint_state.specs.State.{State as Bridges}
-use Rattle.endpoint_state.specs.Step.{config_of, verdict_in}
-use Rattle.endpoint_core.specs.Came.{Came}
-use Rattle.endpoint_core.specs.Course.{Course, IsOfWhatCame, decision_of}
+use Rattle.endpoint_core.specs.Settings.{BridgeSettings, Settings, joined}
+use Rattle.endpoint_core.specs.State.{State as Bridges}
+use Rattle.endpoint_core.specs.StateStep.{config_of, verdict_in}
+use Rattle.endpoint_core.specs.Arrival.{Arrival}
+use Rattle.endpoint_core.specs.Forwarding.{Forwarding, IsOfWhatCame, decision_of}
 use Rattle.endpoint_core.specs.Decision.{Sent}
 use Rattle.endpoint_core.specs.Outlets.{HasFewOutlets}
 use Rattle.endpoint_core.specs.Step.{Answer, Decided, Replied, by_verdict, decided, sent_at}
@@ -80,18 +80,18 @@ abbrev outcomes_in : Answer → List Sent
 outcomes_in (Decided d) = d.outcomes
 outcomes_in (Replied fault) = []
 
-by_few : (S : Settings) (x : Came) (r : Result (List Place) Reason) (n : ℕ) → AtMost n r → length (by_verdict S x r).outcomes ≤ n
+by_few : (S : Settings) (x : Arrival) (r : Result (List Place) Reason) (n : ℕ) → AtMost n r → length (by_verdict S x r).outcomes ≤ n
 by_few S x (Ok places) n few = omega (arith, few, length-map places (sent_at S x.vid x.frame))
 by_few S x (Err reason) n few = omega arith
 
-decided_few : (t : ℕ) (B : Bridges) (x : Came) → HasFewOutlets B.settings → IsVid x.vid → length (decided t B (Ok x)).outcomes ≤ 32
+decided_few : (t : ℕ) (B : Bridges) (x : Arrival) → HasFewOutlets B.settings → IsVid x.vid → length (decided t B (Ok x)).outcomes ≤ 32
 decided_few t B x few is_vid =
     by_few B.settings x _ 32
     (verdict_few B.settings.ports (B.settings.bridges x.vid) _ _ x.from x.frame _ 32 (omega arith) (few x.vid is_vid))
 
--- so a course has few places that is decided as a frame or packet was
-few_places : (S : Settings) (course : Course) (places : List Place) (came : Result Came Refused) (t : ℕ) (B : Bridges) → HasFewOutlets B.settings
-    → IsOfWhatCame came course → Decided (decision_of S course places) ≡ Decided (decided t B came) → IfOk course (λ x. IsVid x.vid → length places ≤ 32)
+-- so a forwarding has few places that is decided as a frame or packet was
+few_places : (S : Settings) (forwarding : Forwarding) (places : List Place) (came : Result Arrival Refused) (t : ℕ) (B : Bridges) → HasFewOutlets B.settings
+    → IsOfWhatCame came forwarding → Decided (decision_of S forwarding places) ≡ Decided (decided t B came) → IfOk forwarding (λ x. IsVid x.vid → length places ≤ 32)
 few_places S (Err refused) places came t B few of is = tt
 few_places S (Ok x) places (Err refused) t B few of is = absurd cc
 few_places S (Ok x) places (Ok y) t B few of is = λ is_vid.
@@ -100,7 +100,7 @@ few_places S (Ok x) places (Ok y) t B few of is = λ is_vid.
     omega (arith, told, length-map places (sent_at S x.vid x.frame), decided_few t B x few is_vid)
 
 -- and so has it in a list that holds the same
-pub few_slice : (S : Settings) (course : Course) (places slice : List Place) (came : Result Came Refused) (t : ℕ) (B : Bridges) → HasFewOutlets B.settings
-    → IsOfWhatCame came course → Decided (decision_of S course places) ≡ Decided (decided t B came) → slice ≡ places → IfOk course (λ x. IsVid x.vid → length slice ≤ 32)
-few_slice S course places slice came t B few of is same =
-    subst (λ (ps : List Place). IfOk course (λ x. IsVid x.vid → length ps ≤ 32)) (sym same) (few_places S course places came t B few of is)
+pub few_slice : (S : Settings) (forwarding : Forwarding) (places slice : List Place) (came : Result Arrival Refused) (t : ℕ) (B : Bridges) → HasFewOutlets B.settings
+    → IsOfWhatCame came forwarding → Decided (decision_of S forwarding places) ≡ Decided (decided t B came) → slice ≡ places → IfOk forwarding (λ x. IsVid x.vid → length slice ≤ 32)
+few_slice S forwarding places slice came t B few of is same =
+    subst (λ (ps : List Place). IfOk forwarding (λ x. IsVid x.vid → length ps ≤ 32)) (sym same) (few_places S forwarding places came t B few of is)

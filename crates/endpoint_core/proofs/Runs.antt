@@ -6,18 +6,18 @@ use Rattle.std.specs.FinMap.{empty}
 use Rattle.std.proofs.Math.Nat.{le_refl}
 use Rattle.std.proofs.Math.Path.{fun_ext}
 use Rattle.std.proofs.lemmas.List.{append_assoc}
-use Rattle.frame_view.specs.declared.reason.Refused.{Refused}
-use Rattle.underlay.specs.Overlay.{Overlay}
+use Rattle.wire.specs.declared.ether.reason.Refused.{Refused}
+use Rattle.overlay.specs.Overlay.{Overlay}
 use Rattle.filter_db.specs.Table.{Table, nanoseconds}
 use Rattle.filter_db.specs.Ageing.{live-live}
 use Rattle.filter_db.proofs.TableLemmas.{kept-empty}
-use Rattle.overlay_settings.specs.declared.change.Change.{Change}
-use Rattle.endpoint_state.specs.Settings.{Settings, BridgeSettings, SegmentSettings, segment_at}
-use Rattle.endpoint_state.specs.Effect.{Effect, ToFlood, ToBridge, ToLimit, ToMembers, ToPort, Comes, Goes, ToNothing, effect, applied}
-use Rattle.endpoint_state.specs.Change.{is_about, refused, accepted}
-use Rattle.endpoint_state.proofs.EffectLemmas.{is_to, effect-other}
-use Rattle.endpoint_state.specs.State.{State as Bridges, live_in, aged, accepted_state, table_changed}
-use Rattle.endpoint_core.specs.Came.{Came}
+use Rattle.overlay.specs.declared.settings.change.Change.{Change}
+use Rattle.endpoint_core.specs.Settings.{Settings, BridgeSettings, SegmentSettings, segment_at}
+use Rattle.endpoint_core.specs.Effect.{Effect, ToFlood, ToBridge, ToLimit, ToMembers, ToPort, Comes, Goes, ToNothing, effect, applied}
+use Rattle.endpoint_core.specs.Change.{is_about, refused, accepted}
+use Rattle.endpoint_core.proofs.EffectLemmas.{is_to, effect-other}
+use Rattle.endpoint_core.specs.State.{State as Bridges, live_in, aged, accepted_state, table_changed}
+use Rattle.endpoint_core.specs.Arrival.{Arrival}
 use Rattle.endpoint_core.specs.Arrival.{came_at, came_by}
 use Rattle.endpoint_core.specs.Event.{Input, FrameAt, Packet, Asks, Event, IsRising}
 use Rattle.endpoint_core.specs.Step.{State, opened, after_came, bridges_after, answer_by, answer, after, answers, state_after, last_moment}
@@ -35,7 +35,7 @@ live_in-empty (Some bridge) t = kept-empty _
 
 -- ---- one event: the settings
 
-settings-frame : (t : ℕ) (B : Bridges) (r : Result Came Refused) → (after_came t B r).settings ≡ B.settings
+settings-frame : (t : ℕ) (B : Bridges) (r : Result Arrival Refused) → (after_came t B r).settings ≡ B.settings
 settings-frame t B (Ok x) = refl
 settings-frame t B (Err refused) = refl
 
@@ -80,7 +80,7 @@ bridges-event vid S (Asks c) other = bridges-chosen S c vid (is_none (refused S 
 
 -- ---- one event: the table of a segment
 
-table-frame : (t : ℕ) (B : Bridges) (vid : ℕ) (r : Result Came Refused) → (after_came t B r).tables vid ≡ cond (comes_to vid r) (entries_after_frame (segment_at B.settings vid) t r (B.tables vid)) (B.tables vid)
+table-frame : (t : ℕ) (B : Bridges) (vid : ℕ) (r : Result Arrival Refused) → (after_came t B r).tables vid ≡ cond (comes_to vid r) (entries_after_frame (segment_at B.settings vid) t r (B.tables vid)) (B.tables vid)
 table-frame t B vid (Ok x) = refl
 table-frame t B vid (Err refused) = refl
 

@@ -3,7 +3,7 @@ use Rattle.std.proofs.Common.{◌≡◌, ℕ, ◌+◌, ◌≤◌, Bool, true, fa
 use Rattle.std.specs.List.{flat_map, count_by}
 use Rattle.std.proofs.Math.Path.{fun_ext}
 use Rattle.std.proofs.lemmas.List.Sums.{sum_by-append, sum_by-cons}
-use Rattle.endpoint_state.specs.Settings.{Settings}
+use Rattle.endpoint_core.specs.Settings.{Settings}
 use Rattle.endpoint_core.specs.Counts.{Mark, Counts, marks_of, most, is_mark, one_more, counted_all, tally}
 use Rattle.endpoint_core.specs.Event.{Event, IsRising}
 use Rattle.endpoint_core.specs.Step.{State, opened, answer, after, answers, state_after, Answer, Decided, Replied, counts_after}

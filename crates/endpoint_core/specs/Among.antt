@@ -1,16 +1,16 @@
 -- An endpoint of which some segments are asked for: what comes to the others is passed over. It states no standard.
 use Rattle.std.specs.Prelude.{ℕ, Bool, if◌then◌else◌, Option, Some, Result, Ok, Err}
-use Rattle.frame_view.specs.declared.reason.Refused.{Refused}
+use Rattle.wire.specs.declared.ether.reason.Refused.{Refused}
 use Rattle.segment_set.specs.Segments.{Segments, holds}
-use Rattle.endpoint_state.specs.Change.{named}
-use Rattle.endpoint_state.specs.Settings.{Settings}
+use Rattle.endpoint_core.specs.Change.{named}
+use Rattle.endpoint_core.specs.Settings.{Settings}
 use Rattle.endpoint_core.specs.Arrival.{came_at, came_by}
-use Rattle.endpoint_core.specs.Came.{Came}
+use Rattle.endpoint_core.specs.Arrival.{Arrival}
 use Rattle.endpoint_core.specs.Event.{Input, FrameAt, Packet, Asks, Event}
 use Rattle.endpoint_core.specs.Step.{State, after, passed}
 
 -- the segment of a frame that came to one, or that was refused in one
-abbrev pub segment_of : Result Came Refused → Option ℕ
+abbrev pub segment_of : Result Arrival Refused → Option ℕ
 segment_of (Ok x) = Some x.vid
 segment_of (Err refused) = refused.segment
 

@@ -1,22 +1,27 @@
 -- How a frame comes to the bridge of a segment: by a local port or by a tunnel. It states no standard.
 use Rattle.std.specs.Prelude.{ℕ, nat_lt, Bool, ◌&&◌, if◌then◌else◌, List, [], ◌∷◌, length, Result, Ok, Err}
 use Rattle.std.specs.Option.{option_map_or}
-use Rattle.frame_view.specs.First.{first, unless}
-use Rattle.frame_view.specs.Frame.{Frame}
-use Rattle.frame_view.specs.Tag.{begins_tag}
-use Rattle.frame_view.specs.declared.reason.Reason.{Reason}
-use Rattle.frame_view.specs.declared.reason.Reason.TheVariants.{TooLong, Sliced, InnerTag}
-use Rattle.frame_view.specs.declared.reason.Refused.{Refused}
+use Rattle.wire.specs.First.{first, unless}
+use Rattle.wire.specs.Frame.{Frame}
+use Rattle.wire.specs.Tag.{begins_tag}
+use Rattle.wire.specs.declared.ether.reason.Reason.{Reason}
+use Rattle.wire.specs.declared.ether.reason.Reason.TheVariants.{TooLong, Sliced, InnerTag}
+use Rattle.wire.specs.declared.ether.reason.Refused.{Refused}
 use Rattle.filter_db.specs.declared.place.Place.{Place}
 use Rattle.filter_db.specs.declared.place.Place.TheVariants.{Local, Remote}
-use Rattle.vlan_ports.specs.Ingress.{enters, nowhere, within}
-use Rattle.vlan_ports.specs.Ports.{Ports, egress_at}
-use Rattle.underlay.specs.Overlay.{Overlay, refuses_tags_at}
+use Rattle.overlay.specs.Ingress.{enters, nowhere, within}
+use Rattle.overlay.specs.Ports.{Ports, egress_at}
+use Rattle.overlay.specs.Overlay.{Overlay, refuses_tags_at}
 use Rattle.decapsulate.specs.Arrival.{arrival_of}
 use Rattle.decapsulate.specs.declared.arrived.Arrived.{Arrived}
 use Rattle.encapsulate.specs.Emission.{Parts, no_parts, local_text, local_parts}
 use Rattle.encapsulate.specs.Remote.{sending, sending_parts}
-use Rattle.endpoint_core.specs.Came.{Came}
+
+-- a frame in a segment, and the place that it came from
+pub record Arrival : Type 0 where
+  pub vid : ℕ
+  pub from : Place
+  pub frame : Frame
 
 -- ---- by a local port
 
@@ -28,30 +33,30 @@ capture_reasons original b =
     ∷ []
 
 -- a frame in a segment, from a local port
-abbrev pub entered : ℕ → Result (ℕ × Frame) Refused → Result Came Refused
+abbrev pub entered : ℕ → Result (ℕ × Frame) Refused → Result Arrival Refused
 entered port (Ok found) = Ok (record { vid = found.0; from = Local port; frame = found.1 })
 entered port (Err refused) = Err refused
 
 -- of those, one whose body begins with a tag is refused in its segment where that takes none of them
-abbrev pub let_in : Overlay → Result Came Refused → Result Came Refused
+abbrev pub let_in : Overlay → Result Arrival Refused → Result Arrival Refused
 let_in overlay (Ok x) =
     if begins_tag x.frame.body && refuses_tags_at overlay x.vid then Err (within x.vid InnerTag) else Ok x
 let_in overlay (Err refused) = Err refused
 
 -- the frame that the octets at a port are, in its segment; or the first reason why it comes to none
-unfoldable pub came_at : Ports → Overlay → ℕ → ℕ → List ℕ → Result Came Refused
+unfoldable pub came_at : Ports → Overlay → ℕ → ℕ → List ℕ → Result Arrival Refused
 came_at ports overlay port original b =
     unless (first (capture_reasons original b)) (let_in overlay (entered port (enters ports port b)))
 
 -- ---- by a tunnel
 
 -- a frame in a segment, from a remote endpoint
-abbrev pub tunnelled : Result Arrived Refused → Result Came Refused
+abbrev pub tunnelled : Result Arrived Refused → Result Arrival Refused
 tunnelled (Ok x) = Ok (record { vid = x.vid; from = Remote x.from.0 x.from.1; frame = x.frame })
 tunnelled (Err refused) = Err refused
 
 -- the frame that an outer packet brings, in its segment; or the first reason why it brings none
-unfoldable pub came_by : Overlay → ℕ → List ℕ → Result Came Refused
+unfoldable pub came_by : Overlay → ℕ → List ℕ → Result Arrival Refused
 came_by overlay original b = tunnelled (arrival_of overlay original b)
 
 -- ---- and how it leaves

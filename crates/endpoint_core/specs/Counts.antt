@@ -6,8 +6,8 @@
 use Rattle.std.specs.Prelude.{ℕ, ◌+◌, ◌-◌, ◌^◌, ◌==◌, ◌&&◌, Bool, true, false, min, if◌then◌else◌, List, [], ◌∷◌, map, count_by}
 use Rattle.std.specs.Prelude.{Option, Some, None, Result, Ok, Err}
 use Rattle.std.specs.List.{flat_map}
-use Rattle.frame_view.specs.Reason.{number_of}
-use Rattle.frame_view.specs.declared.reason.Reason.{Reason}
+use Rattle.wire.specs.Reason.{number_of}
+use Rattle.wire.specs.declared.ether.reason.Reason.{Reason}
 use Rattle.endpoint_core.specs.Decision.{Sent, Decision}
 
 -- a segment, or none, and the number of a reason, or 0 for what was sent

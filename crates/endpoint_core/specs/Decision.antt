@@ -3,8 +3,8 @@
 --     Decision      the outcomes, octet for octet, or why there are none
 --     Decided      the same with each emission in its parts
 use Rattle.std.specs.Prelude.{◌≤◌, ℕ, Bool, false, List, [], length, map, IfOk, Option, Some, None, Result}
-use Rattle.frame_view.specs.declared.reason.Reason.{Reason}
-use Rattle.frame_view.specs.declared.reason.Refused.{Refused}
+use Rattle.wire.specs.declared.ether.reason.Reason.{Reason}
+use Rattle.wire.specs.declared.ether.reason.Refused.{Refused}
 use Rattle.filter_db.specs.declared.place.Place.{Place}
 use Rattle.encapsulate.specs.Remote.{texts}
 use Rattle.endpoint_core.specs.declared.decision.Outcome.{Outcome}

@@ -1,7 +1,7 @@
 -- What comes to an endpoint: frames at its local ports, packets from its underlay, and changes of its settings.
 -- It states no standard.
 use Rattle.std.specs.Prelude.{◌≤◌, ℕ, List, [], ◌∷◌}
-use Rattle.overlay_settings.specs.declared.change.Change.{Change}
+use Rattle.overlay.specs.declared.settings.change.Change.{Change}
 
 -- a frame, a packet or a change
 pub data Input : Type 0 where

@@ -1,8 +1,8 @@
 -- What an endpoint keeps, and the state that this is. It states no standard.
 use Rattle.std.specs.Prelude.{refl, ℕ, List}
 use Rattle.std.specs.Coded.{Coded, code_by, coded×, coded_ℕ, coded_list}
-use Rattle.endpoint_state.specs.Held.{Held, state_at}
-use Rattle.endpoint_state.specs.Code.{held_code}
+use Rattle.endpoint_core.specs.Held.{Held, state_at}
+use Rattle.endpoint_core.specs.Code.{held_code}
 use Rattle.endpoint_core.specs.Cells.{Cells, count_in}
 use Rattle.endpoint_core.specs.Step.{State}
 

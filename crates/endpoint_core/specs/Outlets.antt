@@ -1,8 +1,8 @@
 -- How many outlets a frame has at most. It states no standard.
 use Rattle.std.specs.Prelude.{ℕ, ◌≤◌, ◌+◌, length}
-use Rattle.frame_view.specs.Tag.{IsVid}
-use Rattle.underlay.specs.Overlay.{Overlay, flood_at}
-use Rattle.endpoint_state.specs.Settings.{Settings}
+use Rattle.wire.specs.Tag.{IsVid}
+use Rattle.overlay.specs.Overlay.{Overlay, flood_at}
+use Rattle.endpoint_core.specs.Settings.{Settings}
 
 -- so many ports and the flood list of any segment are 32 together at most
 abbrev pub AreFewOutlets : ℕ → Overlay → Type 0

@@ -7,14 +7,14 @@
 use Rattle.std.specs.Prelude.{ℕ, ◌==◌, ◌&&◌, Bool, false, if◌then◌else◌, List, [], ◌∷◌, ◌++◌, is_none, Option, Some, None, Result, Ok, Err}
 use Rattle.std.specs.List.{flat_map}
 use Rattle.std.specs.FinMap.{empty}
-use Rattle.frame_view.specs.declared.reason.Refused.{Refused}
+use Rattle.wire.specs.declared.ether.reason.Refused.{Refused}
 use Rattle.filter_db.specs.Table.{Table}
-use Rattle.overlay_settings.specs.declared.change.Change.{Change}
-use Rattle.endpoint_state.specs.Settings.{Settings, SegmentSettings, segment_at}
-use Rattle.endpoint_state.specs.Change.{is_about, refused, changed, entries_changed}
-use Rattle.endpoint_state.specs.State.{State as Bridges, live_in}
-use Rattle.endpoint_state.specs.Step.{table_learned}
-use Rattle.endpoint_core.specs.Came.{Came}
+use Rattle.overlay.specs.declared.settings.change.Change.{Change}
+use Rattle.endpoint_core.specs.Settings.{Settings, SegmentSettings, segment_at}
+use Rattle.endpoint_core.specs.Change.{is_about, refused, changed, entries_changed}
+use Rattle.endpoint_core.specs.State.{State as Bridges, live_in}
+use Rattle.endpoint_core.specs.StateStep.{table_learned}
+use Rattle.endpoint_core.specs.Arrival.{Arrival}
 use Rattle.endpoint_core.specs.Arrival.{came_at, came_by}
 use Rattle.endpoint_core.specs.Decision.{Decision}
 use Rattle.endpoint_core.specs.Event.{Input, FrameAt, Packet, Asks, Event}
@@ -36,7 +36,7 @@ settings_after S (e ∷ es) = settings_after (settings_after_input S e.input) es
 -- ---- the bridge of one segment
 
 -- a frame or packet comes to the segment of this VID
-abbrev pub comes_to : ℕ → Result Came Refused → Bool
+abbrev pub comes_to : ℕ → Result Arrival Refused → Bool
 comes_to vid (Ok x) = vid == x.vid
 comes_to vid (Err refused) = false
 
@@ -55,7 +55,7 @@ events_of vid S (e ∷ es) =
     if is_own vid S e.input then (S, e) ∷ rest else rest
 
 -- the entries of a segment behind a frame that came to it, or that was refused
-abbrev pub entries_after_frame : Option SegmentSettings → ℕ → Result Came Refused → Table → Table
+abbrev pub entries_after_frame : Option SegmentSettings → ℕ → Result Arrival Refused → Table → Table
 entries_after_frame segment t (Ok x) m = table_learned t x.from x.frame segment m
 entries_after_frame segment t (Err refused) m = m
 

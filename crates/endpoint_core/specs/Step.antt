@@ -5,17 +5,17 @@
 --     answers, state_after      the same of many events, one after another
 use Rattle.std.specs.Prelude.{ℕ, ◌==◌, Bool, false, List, [], ◌∷◌, map, length, Option, Some, Result, Ok, Err}
 use Rattle.std.specs.FinMap.{empty}
-use Rattle.frame_view.specs.Frame.{Frame}
-use Rattle.frame_view.specs.declared.reason.Reason.{Reason}
-use Rattle.frame_view.specs.declared.reason.Refused.{Refused}
+use Rattle.wire.specs.Frame.{Frame}
+use Rattle.wire.specs.declared.ether.reason.Reason.{Reason}
+use Rattle.wire.specs.declared.ether.reason.Refused.{Refused}
 use Rattle.filter_db.specs.declared.place.Place.{Place}
-use Rattle.underlay.specs.Overlay.{Overlay, segment_at as overlay_segment}
+use Rattle.overlay.specs.Overlay.{Overlay, segment_at as overlay_segment}
 use Rattle.std.specs.Option.{option_map_or}
-use Rattle.endpoint_state.specs.declared.fault.ChangeFault.{ChangeFault}
-use Rattle.endpoint_state.specs.Settings.{Settings}
-use Rattle.endpoint_state.specs.State.{State as Bridges, aged, fault, after_change}
-use Rattle.endpoint_state.specs.Step.{verdict, after_frame}
-use Rattle.endpoint_core.specs.Came.{Came}
+use Rattle.endpoint_core.specs.declared.state.fault.ChangeFault.{ChangeFault}
+use Rattle.endpoint_core.specs.Settings.{Settings}
+use Rattle.endpoint_core.specs.State.{State as Bridges, aged, fault, after_change}
+use Rattle.endpoint_core.specs.StateStep.{verdict, after_frame}
+use Rattle.endpoint_core.specs.Arrival.{Arrival}
 use Rattle.endpoint_core.specs.Arrival.{came_at, came_by, emitted, emitted_parts}
 use Rattle.endpoint_core.specs.Counts.{Counts, no_counts, counted}
 use Rattle.endpoint_core.specs.Decision.{Sent, Decision, refused_as, dropped_in, forwarded}
@@ -50,22 +50,22 @@ abbrev pub outcome_at : Settings → ℕ → Frame → Place → Outcome
 outcome_at S vid f place = record { place = place; sent = emitted_parts S.ports S.overlay vid f place }
 
 -- the outlets, each with what is sent there; or why there are none
-abbrev pub by_verdict : Settings → Came → Result (List Place) Reason → Decision
+abbrev pub by_verdict : Settings → Arrival → Result (List Place) Reason → Decision
 by_verdict S x (Ok places) = forwarded x.vid (has_two_tunnels S.overlay x.vid) (map (sent_at S x.vid x.frame) places)
 by_verdict S x (Err reason) = dropped_in (Some x.vid) reason
 
 -- what the bridge of its segment decides of a frame at moment t
-abbrev pub decided_in : ℕ → Bridges → Came → Decision
+abbrev pub decided_in : ℕ → Bridges → Arrival → Decision
 decided_in t B x = by_verdict B.settings x (verdict t x.vid x.from x.frame B)
 
 -- what is decided of a frame or a packet: by the bridge of its segment where it comes to one, else why it
 -- comes to none
-abbrev pub decided : ℕ → Bridges → Result Came Refused → Decision
+abbrev pub decided : ℕ → Bridges → Result Arrival Refused → Decision
 decided t B (Ok x) = decided_in t B x
 decided t B (Err refused) = refused_as refused
 
 -- the bridges after it: that of its segment learns where the source stands
-abbrev pub after_came : ℕ → Bridges → Result Came Refused → Bridges
+abbrev pub after_came : ℕ → Bridges → Result Arrival Refused → Bridges
 after_came t B (Ok x) = after_frame t x.vid x.from x.frame B
 after_came t B (Err refused) = B
 
@@ -107,7 +107,7 @@ after s e = record {
 }
 
 -- the same of a frame or a packet that came to a segment, or to none
-abbrev pub after_coming : ℕ → Result Came Refused → State → State
+abbrev pub after_coming : ℕ → Result Arrival Refused → State → State
 after_coming t came s = record {
   bridges = aged t (after_came t (aged t s.bridges) came);
   counts = counted s.counts (decided t (aged t s.bridges) came);

@@ -1,25 +1,25 @@
 //! How a frame comes to the bridge of a segment.
 //!
-//! A [`Came`] has its frame first, so that no unused octets lie between what is copied together.
+//! A [`Arrival`] has its frame first, so that no unused octets lie between what is copied together.
 ghost use Rattle.std.specs.Prelude.{◌≡◌, ◌≤◌, ℕ, IfOk, length, true};
 ghost use Rattle.std.specs.List.{list_all};
 ghost use Rattle.filter_db.specs.declared.place.Place.TheVariants.{Local};
-ghost use Rattle.vlan_ports.specs.Ports.{has_segment as has_members};
-ghost use Rattle.underlay.specs.Overlay.{has_segment, flood_at};
-ghost use Rattle.endpoint_state.specs.Sound.{reaches, is_reached};
+ghost use Rattle.overlay.specs.Ports.{has_segment as has_members};
+ghost use Rattle.overlay.specs.Overlay.{has_segment, flood_at};
+ghost use Rattle.endpoint_core.specs.Sound.{reaches, is_reached};
 ghost use Rattle.encapsulate.specs.Sums.{AreSums};
 ghost use Rattle.endpoint_core.specs.Among.{segment_of};
 ghost use Rattle.endpoint_core.specs.Arrival.{came_at, came_by};
 
-use crate::Course;
+use crate::Forwarding;
 use decapsulate::unwrap;
 use encapsulate::{FrameSums, begins_tag};
 use filter_db::Place;
-use frame_view::{BridgeFrame, Reason, Refused, Vid};
-use ip_udp_view::Addr;
+use overlay::ports::{PortSet, classify};
+use overlay::underlay::{Overlay, Underlay};
 use std::marker::Model;
-use underlay::{Under, Underlay};
-use vlan_ports::{PortSet, classify};
+use wire::ether::{BridgeFrame, Reason, Refused, Vid};
+use wire::ip_udp::Addr;
 
 /// The most octets of a local frame.
 const LONGEST_FRAME: usize = 65_535;
@@ -29,7 +29,7 @@ const LONGEST_PACKET: usize = 65_549;
 
 /// A frame in a segment, and the place that it came from.
 #[derive(Debug, Drop)]
-pub struct Came<'a> {
+pub struct Arrival<'a> {
     // the frame first: nothing stands unused before it then, and it is made where it lies
     pub(crate) frame: BridgeFrame<'a>,
     pub(crate) vid: Vid,
@@ -38,24 +38,24 @@ pub struct Came<'a> {
     sums: Option<FrameSums>,
 }
 
-impl<'a> Model for Came<'a> {
+impl<'a> Model for Arrival<'a> {
     ghost use Rattle.std.specs.Prelude.{IfSome};
     ghost use Rattle.encapsulate.specs.Sums.{AreSums};
-    ghost use Rattle.endpoint_core.specs.Came.{Came};
+    ghost use Rattle.endpoint_core.specs.Arrival.{Arrival};
 
-    ghost Value = { Came };
+    ghost Value = { Arrival };
 
     ghost view = { λ c. record { vid = c.vid; from = c.from; frame = c.frame } };
 
     ghost invariant = { λ c. IfSome c.sums (AreSums c.frame) };
 }
 
-impl<'a> Came<'a> {
+impl<'a> Arrival<'a> {
     /// A frame in a segment.
-    fn at(vid: Vid, from: Place, frame: BridgeFrame<'a>) -> Came<'a>
+    fn at(vid: Vid, from: Place, frame: BridgeFrame<'a>) -> Arrival<'a>
         ensures { result ≡ record { vid = vid; from = from; frame = frame.entry } }
     {
-        Came {
+        Arrival {
             vid,
             from,
             frame,
@@ -106,7 +106,7 @@ impl<'a> Came<'a> {
 
 /// The segment of a frame that came to one, or that was refused in one.
 #[inline]
-pub fn segment_of(came: &Result<Came, Refused>) -> Option<Vid>
+pub fn segment_of(came: &Result<Arrival, Refused>) -> Option<Vid>
     ensures { result ≡ segment_of came.now }
 {
     match came {
@@ -143,69 +143,74 @@ fn computes_sum(addr: Addr, underlay: &Underlay) -> bool {
     }
 }
 
-/// Sets a course to the frame that these octets at a local port are, in its segment; or to the first reason, of 1 to 11 and 34,
+/// Sets a forwarding to the frame that these octets at a local port are, in its segment; or to the first reason, of 1 to 11 and 34,
 /// why it comes to none. It is written where it lies: a result in its place would be put together and copied.
 #[tactic(auto, unfolding(crate::specs::Arrival::came_at))]
 #[inline(always)]
 pub(crate) fn come_at<'a>(
     ports: &PortSet,
-    under: &Under,
+    under: &Overlay,
     port: u8,
     original: u32,
     octets: &'a [u8],
-    course: &mut Course<'a>,
+    forwarding: &mut Forwarding<'a>,
 )
     requires low { 1 ≤ port }
     requires high { port ≤ length ports.now.ports }
-    ensures value { course.new ≡ came_at ports.now under.now port original octets.now }
-    ensures there { IfOk course.new (λ x. has_members ports.now x.vid ≡ true) }
-    ensures from { IfOk course.new (λ x. x.from ≡ Local port) }
-    ensures short { IfOk course.new (λ x. length x.frame.body ≤ 65535) }
+    ensures value { forwarding.new ≡ came_at ports.now under.now port original octets.now }
+    ensures there { IfOk forwarding.new (λ x. has_members ports.now x.vid ≡ true) }
+    ensures from { IfOk forwarding.new (λ x. x.from ≡ Local port) }
+    ensures short { IfOk forwarding.new (λ x. length x.frame.body ≤ 65535) }
 {
     if octets.len() > LONGEST_FRAME {
-        *course = Err(Refused::nowhere(Reason::TooLong));
+        *forwarding = Err(Refused::nowhere(Reason::TooLong));
         return;
     }
     if octets.len() < original as usize {
-        *course = Err(Refused::nowhere(Reason::Sliced));
+        *forwarding = Err(Refused::nowhere(Reason::Sliced));
         return;
     }
     match classify(ports, port, octets) {
         Ok(entered) => {
             let (vid, frame) = entered;
             if begins_tag(frame.body) && under.refuses_tags(vid) {
-                *course = Err(Refused::within(vid, Reason::InnerTag));
+                *forwarding = Err(Refused::within(vid, Reason::InnerTag));
                 return;
             }
-            *course = Ok(Came::at(vid, Place::Local(port), frame));
+            *forwarding = Ok(Arrival::at(vid, Place::Local(port), frame));
         }
-        Err(refused) => *course = Err(refused),
+        Err(refused) => *forwarding = Err(refused),
     }
 }
 
-/// Sets a course to the frame that an outer packet brings, in its segment; or to the first reason, of 1 to 3, 5, 6 and 12 to
+/// Sets a forwarding to the frame that an outer packet brings, in its segment; or to the first reason, of 1 to 3, 5, 6 and 12 to
 /// 34, why it brings none.
 #[tactic(auto, unfolding(crate::specs::Arrival::came_by))]
-pub(crate) fn come_by<'a>(under: &Under, original: u32, octets: &'a [u8], course: &mut Course<'a>)
+pub(crate) fn come_by<'a>(
+    under: &Overlay,
+    original: u32,
+    octets: &'a [u8],
+    forwarding: &mut Forwarding<'a>,
+)
     requires { (vid : ℕ) → list_all (λ r. reaches under.now vid r.tunnel r.addr) (flood_at under.now vid) ≡ true }
-    ensures value { course.new ≡ came_by under.now original octets.now }
-    ensures there { IfOk course.new (λ x. has_segment under.now x.vid ≡ true) }
-    ensures reached { IfOk course.new (λ x. is_reached under.now x.vid x.from ≡ true) }
-    ensures short { IfOk course.new (λ x. length x.frame.body ≤ 65549) }
+    ensures value { forwarding.new ≡ came_by under.now original octets.now }
+    ensures there { IfOk forwarding.new (λ x. has_segment under.now x.vid ≡ true) }
+    ensures reached { IfOk forwarding.new (λ x. is_reached under.now x.vid x.from ≡ true) }
+    ensures short { IfOk forwarding.new (λ x. length x.frame.body ≤ 65549) }
 {
     if octets.len() > LONGEST_PACKET {
-        *course = Err(Refused::nowhere(Reason::TooLong));
+        *forwarding = Err(Refused::nowhere(Reason::TooLong));
         return;
     }
     if octets.len() < original as usize {
-        *course = Err(Refused::nowhere(Reason::Sliced));
+        *forwarding = Err(Refused::nowhere(Reason::Sliced));
         return;
     }
     match unwrap(under, octets) {
         Ok(arrived) => {
             let (kind, addr) = arrived.from;
-            *course = Ok(Came::at(arrived.vid, Place::Remote(kind, addr), arrived.frame));
+            *forwarding = Ok(Arrival::at(arrived.vid, Place::Remote(kind, addr), arrived.frame));
         }
-        Err(refused) => *course = Err(refused),
+        Err(refused) => *forwarding = Err(refused),
     }
 }

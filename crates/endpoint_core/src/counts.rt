@@ -5,18 +5,18 @@
 ghost use Rattle.std.specs.Prelude.{◌≡◌, ◌≤◌, ◌<◌, ℕ, length, [], slice_index_or, vec_capacity, IfOk, IsSome, Some, map};
 ghost use Rattle.endpoint_core.specs.Counts.{no_counts, one_more, counted, counted_all, marks_all};
 ghost use Rattle.endpoint_core.specs.Cells.{count_in, bumped};
-ghost use Rattle.endpoint_core.specs.Course.{decision_of, IsThere};
+ghost use Rattle.endpoint_core.specs.Forwarding.{decision_of, IsThere};
 ghost use Rattle.endpoint_core.specs.Step.{sent_at};
-ghost use Rattle.endpoint_state.specs.Held.{settings_of};
-ghost use Rattle.endpoint_state.specs.Settings.{segment_at};
+ghost use Rattle.endpoint_core.specs.Held.{settings_of};
+ghost use Rattle.endpoint_core.specs.Settings.{segment_at};
 
-use crate::Course;
+use crate::Forwarding;
 use crate::emit::number_at;
-use endpoint_state::EndpointState;
+use crate::state::EndpointState;
 use filter_db::Place;
-use frame_view::{BridgeFrame, Vid};
 use std::alloc::{AllocError, Global};
 use std::marker::Model;
+use wire::ether::{BridgeFrame, Vid};
 
 /// The numbers of a segment: 0 for what was sent, and 1 to 40 for the reasons.
 const NUMBERS: usize = 41;
@@ -75,11 +75,11 @@ impl Counts {
     }
 
     /// Counts a drop, or what is sent at each place.
-    pub(crate) fn tally(&mut self, state: &EndpointState, course: &Course, places: &[Place])
-        requires { IsThere (settings_of state.now) course.now }
-        ensures { count_in self.new ≡ counted (count_in self.old) (decision_of (settings_of state.now) course.now places.now) }
+    pub(crate) fn tally(&mut self, state: &EndpointState, forwarding: &Forwarding, places: &[Place])
+        requires { IsThere (settings_of state.now) forwarding.now }
+        ensures { count_in self.new ≡ counted (count_in self.old) (decision_of (settings_of state.now) forwarding.now places.now) }
     {
-        match course {
+        match forwarding {
             Err(refused) => self.add(refused.segment, refused.reason.number()),
             Ok(came) => self.tally_places(state, came.vid, &came.frame, places),
         }

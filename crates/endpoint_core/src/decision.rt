@@ -1,25 +1,25 @@
 //! What is decided of a frame or a packet.
 ghost use Rattle.std.specs.Prelude.{◌≡◌, ◌≤◌, [], length, map, All, IfOk, IsTrue, IsSome, Err};
 ghost use Rattle.std.specs.List.{list_all};
-ghost use Rattle.frame_view.specs.Tag.{IsVid};
-ghost use Rattle.frame_view.specs.declared.reason.Reason.TheVariants.{NoOutlet};
+ghost use Rattle.wire.specs.Tag.{IsVid};
+ghost use Rattle.wire.specs.declared.ether.reason.Reason.TheVariants.{NoOutlet};
 ghost use Rattle.filter_db.specs.Place.{no_place};
-ghost use Rattle.endpoint_state.specs.Held.{settings_of};
-ghost use Rattle.endpoint_state.specs.Settings.{segment_at};
-ghost use Rattle.endpoint_state.specs.Step.{can_leave};
-ghost use Rattle.endpoint_core.specs.Course.{decision_of, outcomes_of, IsThere, IsShortFrame, CanLeave};
+ghost use Rattle.endpoint_core.specs.Held.{settings_of};
+ghost use Rattle.endpoint_core.specs.Settings.{segment_at};
+ghost use Rattle.endpoint_core.specs.StateStep.{can_leave};
+ghost use Rattle.endpoint_core.specs.Forwarding.{decision_of, outcomes_of, IsThere, IsShortFrame, CanLeave};
 ghost use Rattle.endpoint_core.specs.Decision.{refused_as, forwarded, octets_of, sent_of, IsShort};
 ghost use Rattle.endpoint_core.specs.Step.{sent_at, outcome_at, has_two_tunnels};
 
-use crate::Course;
-use crate::arrival::Came;
+use crate::Forwarding;
+use crate::arrival::Arrival;
 use crate::emit::egress_at;
+use crate::state::EndpointState;
 use arrayvec::ArrayVec;
 use encapsulate::{Emission, local, wrap};
-use endpoint_state::EndpointState;
 use filter_db::Place;
-use frame_view::{Reason, Refused, Vid};
 use std::marker::Model;
+use wire::ether::{Reason, Refused, Vid};
 
 /// What came of one outlet.
 #[derive(Debug, Drop)]
@@ -44,7 +44,7 @@ impl<'a> Default for Outcome<'a> {
 impl<'a> Outcome<'a> {
     /// What is sent of a frame of a segment at a place where it can leave, or why nothing is.
     #[tactic(auto, unfolding(crate::specs::Arrival::emitted, crate::specs::Arrival::emitted_parts))]
-    fn of(state: &EndpointState, came: &Came<'a>, place: Place) -> Outcome<'a>
+    fn of(state: &EndpointState, came: &Arrival<'a>, place: Place) -> Outcome<'a>
         requires { IsTrue (can_leave (settings_of state.now) came.now.vid place) }
         ensures value { sent_of result ≡ sent_at (settings_of state.now) came.now.vid came.now.frame place }
         ensures body { IfOk result.sent (λ e. e.body ≡ came.now.frame.body) }
@@ -95,16 +95,20 @@ impl<'a> Model for Decision<'a> {
 }
 
 impl<'a> Decision<'a> {
-    /// What a course decides, with the places in a list.
-    pub(crate) fn of(state: &EndpointState, course: &Course<'a>, places: &[Place]) -> Decision<'a>
-        requires there { IsThere (settings_of state.now) course.now }
-        requires short { IsShortFrame course.now }
-        requires leave { CanLeave (settings_of state.now) course.now places.now }
-        requires few { IfOk course.now (λ x. IsVid x.vid → length places.now ≤ 32) }
-        ensures octets { octets_of result ≡ decision_of (settings_of state.now) course.now places.now }
-        ensures parts { result.outcomes ≡ outcomes_of (settings_of state.now) course.now places.now }
+    /// What a forwarding decides, with the places in a list.
+    pub(crate) fn of(
+        state: &EndpointState,
+        forwarding: &Forwarding<'a>,
+        places: &[Place],
+    ) -> Decision<'a>
+        requires there { IsThere (settings_of state.now) forwarding.now }
+        requires short { IsShortFrame forwarding.now }
+        requires leave { CanLeave (settings_of state.now) forwarding.now places.now }
+        requires few { IfOk forwarding.now (λ x. IsVid x.vid → length places.now ≤ 32) }
+        ensures octets { octets_of result ≡ decision_of (settings_of state.now) forwarding.now places.now }
+        ensures parts { result.outcomes ≡ outcomes_of (settings_of state.now) forwarding.now places.now }
     {
-        match course {
+        match forwarding {
             Err(refused) => Decision::refused(*refused),
             Ok(came) => Decision::forwarded(state, came, places),
         }
@@ -124,7 +128,7 @@ impl<'a> Decision<'a> {
     }
 
     /// A frame of a segment that leaves at these places.
-    fn forwarded(state: &EndpointState, came: &Came<'a>, places: &[Place]) -> Decision<'a>
+    fn forwarded(state: &EndpointState, came: &Arrival<'a>, places: &[Place]) -> Decision<'a>
         requires there { IsSome (segment_at (settings_of state.now) came.now.vid) }
         requires few { IsVid came.now.vid → length places.now ≤ 32 }
         requires short { length came.now.frame.body ≤ 65549 }

@@ -1,25 +1,25 @@
 //! What is sent of a frame at an outlet.
 ghost use Rattle.std.specs.Prelude.{◌≡◌, ◌≤◌, ◌++◌, [], Ok, Some, IsSome, IsTrue, unwrap_or};
-ghost use Rattle.vlan_ports.specs.Ports.{egress_at};
+ghost use Rattle.overlay.specs.Ports.{egress_at};
 ghost use Rattle.filter_db.specs.declared.place.Place.TheVariants.{Local, Remote};
 ghost use Rattle.encapsulate.specs.Remote.{sizes, text_behind};
-ghost use Rattle.endpoint_state.specs.Held.{settings_of};
-ghost use Rattle.endpoint_state.specs.Settings.{segment_at};
-ghost use Rattle.endpoint_state.specs.Step.{can_leave};
+ghost use Rattle.endpoint_core.specs.Held.{settings_of};
+ghost use Rattle.endpoint_core.specs.Settings.{segment_at};
+ghost use Rattle.endpoint_core.specs.StateStep.{can_leave};
 ghost use Rattle.endpoint_core.specs.Counts.{number_sent};
 ghost use Rattle.endpoint_core.specs.Step.{sent_at};
 
-use crate::arrival::Came;
+use crate::arrival::Arrival;
+use crate::state::EndpointState;
 use encapsulate::{Head, local_size, local_tag, packet_size, put_head, unsent};
-use endpoint_state::EndpointState;
 use filter_db::Place;
-use frame_view::{BridgeFrame, Reason, Vid};
-use ip_udp_view::{Addr, Tunnel};
-use vlan_ports::Egress;
+use overlay::ports::Egress;
+use wire::ether::{BridgeFrame, Reason, Vid};
+use wire::ip_udp::{Addr, Tunnel};
 
 /// How many octets are sent of a frame of a segment at a place where it can leave, or why nothing is. No head is made.
 #[tactic(auto, unfolding(crate::specs::Arrival::emitted))]
-pub(crate) fn size_in(state: &EndpointState, came: &Came, place: Place) -> Result<usize, Reason>
+pub(crate) fn size_in(state: &EndpointState, came: &Arrival, place: Place) -> Result<usize, Reason>
     requires { IsTrue (can_leave (settings_of state.now) came.now.vid place) }
     ensures { result ≡ sizes (sent_at (settings_of state.now) came.now.vid came.now.frame place).sent }
 {
@@ -57,7 +57,7 @@ pub(crate) fn tag_in(
 #[tactic(auto, unfolding(crate::specs::Arrival::emitted))]
 pub(crate) fn put_head_in(
     state: &EndpointState,
-    came: &Came,
+    came: &Arrival,
     kind: Tunnel,
     addr: Addr,
     head: &mut Head,

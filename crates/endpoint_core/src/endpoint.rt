@@ -1,21 +1,21 @@
 //! The endpoint.
 ghost use Rattle.std.specs.Prelude.{◌≡◌, ◌≤◌, ◌+◌, IfOk, length};
 ghost use Rattle.std.specs.FinMap.{entries};
-ghost use Rattle.frame_view.specs.First.{fault_of};
-ghost use Rattle.endpoint_state.specs.Held.{moment_of};
-ghost use Rattle.endpoint_state.specs.Opened.{settings_told};
-ghost use Rattle.endpoint_state.specs.Work.{most_calls, most_compared_by};
+ghost use Rattle.wire.specs.First.{fault_of};
+ghost use Rattle.endpoint_core.specs.Held.{moment_of};
+ghost use Rattle.endpoint_core.specs.Opened.{settings_told};
+ghost use Rattle.endpoint_core.specs.StateWork.{most_calls, most_compared_by};
 ghost use Rattle.endpoint_core.specs.Event.{change_at};
 ghost use Rattle.endpoint_core.specs.Step.{Replied, opened, answer, after, passed};
 
 use crate::counts::Counts;
-use endpoint_state::{Change, ChangeFault, EndpointState};
+use crate::state::{Change, ChangeFault, EndpointState};
 use filter_db::Entry;
-use frame_view::{Mac, Vid};
-use overlay_settings::Settings;
+use overlay::settings::Settings;
+use overlay::underlay::Overlay;
 use std::alloc::{AllocError, Global};
 use std::marker::Model;
-use underlay::Under;
+use wire::ether::{Mac, Vid};
 
 mod ahead;
 mod coming;
@@ -33,7 +33,7 @@ pub struct Endpoint {
 
 impl Model for Endpoint {
     ghost use Rattle.std.specs.Prelude.{◌≤◌};
-    ghost use Rattle.endpoint_state.specs.Held.{moment_of};
+    ghost use Rattle.endpoint_core.specs.Held.{moment_of};
     ghost use Rattle.endpoint_core.specs.Kept.{Kept, kept_code};
 
     ghost Value = { Kept };
@@ -77,7 +77,7 @@ impl Endpoint {
     }
 
     /// The underlay, and the tunnels and the flood list of each segment, as they are in force.
-    pub fn under(&self) -> &Under
+    pub fn under(&self) -> &Overlay
         ensures { result.now ≡ (state_of self.now).bridges.settings.overlay }
     {
         self.state.under()

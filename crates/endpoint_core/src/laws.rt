@@ -1,6 +1,6 @@
 //! Laws over the definitions.
 ghost use Rattle.std.specs.Prelude.{◌≡◌, List, []};
-ghost use Rattle.endpoint_state.specs.Settings.{Settings};
+ghost use Rattle.endpoint_core.specs.Settings.{Settings};
 ghost use Rattle.endpoint_core.specs.Event.{Event, IsRising};
 ghost use Rattle.endpoint_core.specs.Step.{opened, answers, state_after, last_moment};
 ghost use Rattle.endpoint_core.specs.Run.{bridges_at, decisions, decided_of_all};

@@ -8,10 +8,10 @@ ghost use Rattle.encapsulate.specs.Remote.{texts};
 use crate::{Decision, Outcome};
 use encapsulate::Emission;
 use filter_db::Place;
-use frame_view::Reason;
-use ip_udp_view::{Addr, Tunnel};
 use std::alloc::{AllocError, Global};
 use std::fmt::Write;
+use wire::ether::Reason;
+use wire::ip_udp::{Addr, Tunnel};
 
 /// What was decided, as decision lines have it: `drop`, the number and the name of the reason; or each outcome, with one
 /// space between two. `AllocError`: there was no room for the text.

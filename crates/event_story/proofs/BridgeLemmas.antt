@@ -4,22 +4,22 @@ use Rattle.std.specs.Prelude.{IfSome, is_none, if◌then◌else◌}
 use Rattle.std.specs.Option.{option_map_or}
 use Rattle.std.specs.FinMap.{get, len}
 use Rattle.std.proofs.lemmas.Bool.{false≢true}
-use Rattle.frame_view.specs.Address.{is_group}
-use Rattle.frame_view.specs.declared.reason.Reason.{Reason}
+use Rattle.wire.specs.Address.{is_group}
+use Rattle.wire.specs.declared.ether.reason.Reason.{Reason}
 use Rattle.filter_db.specs.declared.entry.Entry.{Entry}
 use Rattle.filter_db.specs.declared.place.Place.{Place}
 use Rattle.filter_db.specs.Table.{Table, nanoseconds}
-use Rattle.vlan_ports.specs.Ports.{Ports}
-use Rattle.vlan_ports.specs.declared.member.Egress.{Egress}
+use Rattle.overlay.specs.Ports.{Ports}
+use Rattle.overlay.specs.declared.ports.member.Egress.{Egress}
 use Rattle.tunnel_learning.specs.Bridge.{Config}
-use Rattle.endpoint_state.specs.Settings.{SegmentSettings}
-use Rattle.endpoint_state.specs.Step.{config_of}
-use Rattle.endpoint_core.specs.Came.{Came}
+use Rattle.endpoint_core.specs.Settings.{SegmentSettings}
+use Rattle.endpoint_core.specs.StateStep.{config_of}
+use Rattle.endpoint_core.specs.Arrival.{Arrival}
 use Rattle.event_story.specs.Bridge.{bridge_told, stood_fact, told_in}
 use Rattle.event_story.specs.declared.fact.Fact.{Fact}
 use Rattle.event_story.specs.declared.fact.Fact.TheVariants as facts
 
-pub bridge-told : (t : ℕ) (ports : Ports) (left before behind : Table) (x : Came) (dropped : Option Reason) (o : Option SegmentSettings)
+pub bridge-told : (t : ℕ) (ports : Ports) (left before behind : Table) (x : Arrival) (dropped : Option Reason) (o : Option SegmentSettings)
     (c : Config) (limit span entries : ℕ) (from : Place) (source kept stood : Option Entry) (group : Bool) (known : Fact)
     → IsSome o → IfSome o (λ s. c ≡ config_of ports s) → IfSome o (λ s. limit ≡ s.limit) → IfSome o (λ s. span ≡ nanoseconds s.ageing)
     → entries ≡ len before → from ≡ x.from → source ≡ get before x.frame.src → kept ≡ get left x.frame.dst → stood ≡ get behind x.frame.dst

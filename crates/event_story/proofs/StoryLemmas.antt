@@ -1,15 +1,15 @@
 -- What was put, and what was asked, is what there is to tell.
 use Rattle.std.proofs.Common.{◌≡◌, ◌∙◌, ap, append_assoc, append-nil, sym, ℕ, ◌≤◌, List, [], ◌++◌, Vec, Result, Ok, IfOk}
 use Rattle.std.specs.declared.alloc.Global.{Global}
-use Rattle.frame_view.specs.Frame.{Frame}
-use Rattle.frame_view.specs.declared.reason.Reason.{Reason}
-use Rattle.frame_view.specs.declared.reason.Refused.{Refused}
+use Rattle.wire.specs.Frame.{Frame}
+use Rattle.wire.specs.declared.ether.reason.Reason.{Reason}
+use Rattle.wire.specs.declared.ether.reason.Refused.{Refused}
 use Rattle.filter_db.specs.declared.place.Place.{Place}
-use Rattle.endpoint_state.specs.Held.{Held, state_at}
-use Rattle.endpoint_state.specs.State.{aged}
-use Rattle.endpoint_state.specs.Step.{verdict}
-use Rattle.endpoint_state.proofs.LaterLemmas.{held-later}
-use Rattle.endpoint_core.specs.Came.{Came}
+use Rattle.endpoint_core.specs.Held.{Held, state_at}
+use Rattle.endpoint_core.specs.State.{aged}
+use Rattle.endpoint_core.specs.StateStep.{verdict}
+use Rattle.endpoint_core.proofs.LaterLemmas.{held-later}
+use Rattle.endpoint_core.specs.Arrival.{Arrival}
 use Rattle.endpoint_core.specs.Step.{State, Decided, by_verdict, decided}
 use Rattle.timeline.specs.declared.event.Event.{Event as Happens}
 use Rattle.event_story.specs.Story.{came_facts, told}
@@ -24,25 +24,25 @@ pub none-put : (facts one a : List Fact) → one ≡ facts ++ a → one ≡ fact
 none-put facts one a first = first ∙ ap (λ (fs : List Fact). facts ++ fs) (sym (append-nil a))
 
 -- the verdict of a frame, asked by its parts, at a moment that isn't before that of the last event
-pub asked : (held kept : Held) (m t vid : ℕ) (from : Place) (f : Frame) (x : Came) → held ≡ kept → m ≤ t → vid ≡ x.vid → from ≡ x.from → f ≡ x.frame
+pub asked : (held kept : Held) (m t vid : ℕ) (from : Place) (f : Frame) (x : Arrival) → held ≡ kept → m ≤ t → vid ≡ x.vid → from ≡ x.from → f ≡ x.frame
     → verdict t vid from f (state_at t held) ≡ verdict t x.vid x.from x.frame (aged t (state_at m kept))
 asked held kept m t vid from f x same later v p g =
     ap (λ (h : Held). verdict t vid from f (state_at t h)) same ∙ (λ i. verdict t (v i) (p i) (g i) (held-later kept m t later i))
 
 -- what there is to tell of what came so, behind some facts
-abbrev pub came_text : ℕ → Happens → State → List Fact → Result Came Refused → List ℕ
+abbrev pub came_text : ℕ → Happens → State → List Fact → Result Arrival Refused → List ℕ
 came_text number e s facts x =
     let d = decided e.moment (aged e.moment s.bridges) x in
     told number e (facts ++ came_facts e.moment s.bridges (aged e.moment s.bridges) x d) (Decided d)
 
 -- the same in other words
-pub came-told : (number : ℕ) (e : Happens) (s : State) (saw : Result Came Refused → List Fact) (facts : List Fact) (x y : Result Came Refused) → facts ≡ saw x → x ≡ y
+pub came-told : (number : ℕ) (e : Happens) (s : State) (saw : Result Arrival Refused → List Fact) (facts : List Fact) (x y : Result Arrival Refused) → facts ≡ saw x → x ≡ y
     → came_text number e s facts x ≡ came_text number e s (saw y) y
 came-told number e s saw facts x y put same =
-    ap (λ (fs : List Fact). came_text number e s fs x) put ∙ ap (λ (z : Result Came Refused). came_text number e s (saw z) z) same
+    ap (λ (fs : List Fact). came_text number e s fs x) put ∙ ap (λ (z : Result Arrival Refused). came_text number e s (saw z) z) same
 
 -- a story tells of what came, behind some facts, that the bridge of its segment has this verdict
-abbrev pub TellsVerdict : {E : Type 0} → State → ℕ → Happens → List Fact → Came → Result (Vec ℕ Global) E → Result (List Place) Reason → Type 0
+abbrev pub TellsVerdict : {E : Type 0} → State → ℕ → Happens → List Fact → Arrival → Result (Vec ℕ Global) E → Result (List Place) Reason → Type 0
 TellsVerdict {E} s number e facts x story v =
     let d = by_verdict s.bridges.settings x v in
     IfOk story (λ (text : Vec ℕ Global). text.items ≡ told number e (facts ++ came_facts e.moment s.bridges (aged e.moment s.bridges) (Ok x) d) (Decided d))

@@ -4,20 +4,20 @@ use Rattle.std.specs.Prelude.{if◌then◌else◌, List, [], ◌∷◌, ◌++◌
 use Rattle.std.specs.List.{flat_map, range_with_len}
 use Rattle.std.specs.Option.{option_to_list, option_map_or}
 use Rattle.std.specs.FinMap.{get, len}
-use Rattle.frame_view.specs.Address.{is_group}
-use Rattle.frame_view.specs.declared.reason.Reason.{Reason}
-use Rattle.frame_view.specs.declared.reason.Reason.TheVariants.{SamePlace, Horizon, Unreachable, NoOutlet}
+use Rattle.wire.specs.Address.{is_group}
+use Rattle.wire.specs.declared.ether.reason.Reason.{Reason}
+use Rattle.wire.specs.declared.ether.reason.Reason.TheVariants.{SamePlace, Horizon, Unreachable, NoOutlet}
 use Rattle.filter_db.specs.declared.entry.Entry.{Entry}
 use Rattle.filter_db.specs.declared.place.Place.{Place}
 use Rattle.filter_db.specs.declared.place.Place.TheVariants.{Local, Remote}
 use Rattle.filter_db.specs.Place.{same_place}
 use Rattle.filter_db.specs.Table.{Table, is_fixed, nanoseconds}
-use Rattle.vlan_ports.specs.Ports.{Ports}
+use Rattle.overlay.specs.Ports.{Ports}
 use Rattle.tunnel_learning.specs.Bridge.{Config, in_one_group, is_up_at, place_of}
-use Rattle.endpoint_state.specs.Settings.{SegmentSettings, segment_at}
-use Rattle.endpoint_state.specs.State.{State}
-use Rattle.endpoint_state.specs.Step.{after_frame, config_of}
-use Rattle.endpoint_core.specs.Came.{Came}
+use Rattle.endpoint_core.specs.Settings.{SegmentSettings, segment_at}
+use Rattle.endpoint_core.specs.State.{State}
+use Rattle.endpoint_core.specs.StateStep.{after_frame, config_of}
+use Rattle.endpoint_core.specs.Arrival.{Arrival}
 use Rattle.event_story.specs.Neighbours.{folded}
 use Rattle.event_story.specs.declared.fact.Fact.{Fact}
 use Rattle.event_story.specs.declared.fact.Fact.TheVariants as facts
@@ -124,14 +124,14 @@ bridge_told c limit entries from source group destination stood dropped =
 
 -- the same at moment t in the state of a segment: its table as the last event left it, the one before the frame, and the one
 -- behind it
-abbrev pub told_in : ℕ → Ports → Table → Table → Table → Came → Option Reason → SegmentSettings → List Fact
+abbrev pub told_in : ℕ → Ports → Table → Table → Table → Arrival → Option Reason → SegmentSettings → List Fact
 told_in t ports left before behind x dropped s =
     bridge_told (config_of ports s) s.limit (len before) x.from (get before x.frame.src) (is_group x.frame.dst) (get behind x.frame.dst)
     (stood_fact t (nanoseconds s.ageing) (get left x.frame.dst) (get behind x.frame.dst)) dropped
 
 -- what there is to tell of a frame that came to a segment at moment t, and that is dropped for this reason, if it is: in
 -- the state that the last event left, and in the same at that moment
-abbrev pub bridge_facts : ℕ → State → State → Came → Option Reason → List Fact
+abbrev pub bridge_facts : ℕ → State → State → Arrival → Option Reason → List Fact
 bridge_facts t left B x dropped =
     option_map_or (told_in t B.settings.ports (left.tables x.vid) (B.tables x.vid)
     ((after_frame t x.vid x.from x.frame B).tables x.vid) x dropped) (segment_at B.settings x.vid) []

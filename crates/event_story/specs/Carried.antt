@@ -1,6 +1,6 @@
 -- What a tunnel header stands before. It states no standard.
 use Rattle.std.specs.Prelude.{ℕ, List}
-use Rattle.ip_udp_view.specs.declared.addr.Tunnel.{Tunnel}
+use Rattle.wire.specs.declared.ip_udp.addr.Tunnel.{Tunnel}
 
 -- the kind of the tunnel, the network's number in it, and the text behind the header
 pub record Carried : Type 0 where

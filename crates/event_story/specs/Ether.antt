@@ -1,9 +1,9 @@
 -- What the tests of an Ethernet header saw. It states no standard.
 use Rattle.std.specs.Prelude.{ℕ, ◌==◌, nat_lt, not, Bool, false, if◌then◌else◌, List, length, take, Option, Some, None}
-use Rattle.header_octets.specs.Octets.{part}
-use Rattle.frame_view.specs.Address.{is_group, is_reserved}
-use Rattle.frame_view.specs.Ether.{Split, Untagged, WithTag, CutShort, tag_split}
-use Rattle.frame_view.specs.Tag.{vid_of, pcp_of, dei_of}
+use Rattle.wire.specs.Octets.{part}
+use Rattle.wire.specs.Address.{is_group, is_reserved}
+use Rattle.wire.specs.Ether.{Split, Untagged, WithTag, CutShort, tag_split}
+use Rattle.wire.specs.Tag.{vid_of, pcp_of, dei_of}
 use Rattle.event_story.specs.declared.fact.Fact.{Fact}
 use Rattle.event_story.specs.declared.fact.Fact.TheVariants as facts
 

@@ -4,15 +4,15 @@
 --       source learned at p2, before at p1 seen at 5000000000
 use Rattle.std.specs.Prelude.{ℕ, ◌==◌, if◌then◌else◌, List, [], ◌∷◌, ◌++◌, codes, decimal, Option, Some, None}
 use Rattle.std.specs.List.{flat_map}
-use Rattle.frame_view.specs.Reason.{name_of}
-use Rattle.frame_view.specs.declared.reason.Reason.{Reason}
-use Rattle.ip_udp_view.specs.declared.addr.Tunnel.{Tunnel}
+use Rattle.wire.specs.Reason.{name_of}
+use Rattle.wire.specs.declared.ether.reason.Reason.{Reason}
+use Rattle.wire.specs.declared.ip_udp.addr.Tunnel.{Tunnel}
 use Rattle.filter_db.specs.declared.entry.Entry.{Entry}
 use Rattle.filter_db.specs.declared.place.Place.{Place}
 use Rattle.filter_db.specs.declared.place.Place.TheVariants.{Remote}
 use Rattle.endpoint_core.specs.Text.{addr_text}
-use Rattle.story_words.specs.Words.{mac_text, place_text, port_text, up_word, tunnel_word, group_word, destination_word}
-use Rattle.story_words.specs.Words.{origin_word, member_word, egress_word, receiver_word, sum_word, listed_word, stood_text}
+use Rattle.change_story.specs.Words.{mac_text, place_text, port_text, up_word, tunnel_word, group_word, destination_word}
+use Rattle.change_story.specs.Words.{origin_word, member_word, egress_word, receiver_word, sum_word, listed_word, stood_text}
 use Rattle.event_story.specs.declared.fact.Fact.{Fact}
 use Rattle.event_story.specs.declared.fact.Fact.TheVariants as facts
 

@@ -1,15 +1,15 @@
 -- How a frame at a local port comes to a segment, test by test (IEEE 802.1Q, 6.9 and 8.6).
 use Rattle.std.specs.Prelude.{ℕ, not, if◌then◌else◌, List, [], ◌∷◌, ◌++◌, length, Option, Some, None, Result}
 use Rattle.std.specs.Option.{option_map}
-use Rattle.frame_view.specs.declared.reason.Reason.{Reason}
-use Rattle.frame_view.specs.declared.reason.Reason.TheVariants.{TooLong, Sliced, Runt, PortDown, BadSource, Reserved}
-use Rattle.frame_view.specs.declared.reason.Reason.TheVariants.{CutTag, BadVid, FrameType, NoSegment, NotMember, InnerTag}
-use Rattle.frame_view.specs.declared.reason.Refused.{Refused}
-use Rattle.vlan_ports.specs.Ingress.{local_reasons, segment_vid}
-use Rattle.vlan_ports.specs.Ports.{Ports, port_at, is_up, egress_at}
-use Rattle.underlay.specs.Overlay.{Overlay}
+use Rattle.wire.specs.declared.ether.reason.Reason.{Reason}
+use Rattle.wire.specs.declared.ether.reason.Reason.TheVariants.{TooLong, Sliced, Runt, PortDown, BadSource, Reserved}
+use Rattle.wire.specs.declared.ether.reason.Reason.TheVariants.{CutTag, BadVid, FrameType, NoSegment, NotMember, InnerTag}
+use Rattle.wire.specs.declared.ether.reason.Refused.{Refused}
+use Rattle.overlay.specs.Ingress.{local_reasons, segment_vid}
+use Rattle.overlay.specs.Ports.{Ports, port_at, is_up, egress_at}
+use Rattle.overlay.specs.Overlay.{Overlay}
 use Rattle.endpoint_core.specs.Arrival.{came_at}
-use Rattle.endpoint_core.specs.Came.{Came}
+use Rattle.endpoint_core.specs.Arrival.{Arrival}
 use Rattle.event_story.specs.Ether.{header_fact, source_fact, destination_fact, tag_fact, vid_in, has_vid}
 use Rattle.endpoint_core.specs.Among.{segment_of}
 use Rattle.event_story.specs.Tests.{refusal_of, refuses, told}
@@ -34,7 +34,7 @@ abbrev pub member_fact : Ports → ℕ → ℕ → Fact
 member_fact s port vid = facts.Member port (egress_at s vid port)
 
 -- what a test saw of octets at a port that came so to a segment, or to none
-abbrev pub local_fact : Ports → ℕ → ℕ → List ℕ → Result Came Refused → Reason → Option Fact
+abbrev pub local_fact : Ports → ℕ → ℕ → List ℕ → Result Arrival Refused → Reason → Option Fact
 local_fact s port original b came TooLong = Some (facts.Length (length b) 65535)
 local_fact s port original b came Sliced = Some (facts.Captured (length b) original)
 local_fact s port original b came Runt = Some (header_fact b)
@@ -50,7 +50,7 @@ local_fact s port original b came InnerTag = if refuses (refusal_of came) InnerT
 local_fact s port original b came _ = None
 
 -- what the tests saw of a frame that came so
-abbrev pub local_facts_of : Ports → ℕ → ℕ → List ℕ → Result Came Refused → List Fact
+abbrev pub local_facts_of : Ports → ℕ → ℕ → List ℕ → Result Arrival Refused → List Fact
 local_facts_of s port original b came = told (local_fact s port original b came) (refusal_of came) local_tests
 
 -- what the tests saw of octets at a local port

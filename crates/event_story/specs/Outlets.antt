@@ -2,17 +2,17 @@
 use Rattle.std.specs.Prelude.{ℕ, ◌+◌, if◌then◌else◌, List, length, Option, Some, None}
 use Rattle.std.specs.List.{flat_map}
 use Rattle.std.specs.Option.{option_map, option_to_list}
-use Rattle.frame_view.specs.Frame.{Frame, size}
-use Rattle.ip_udp_view.specs.declared.addr.Addr.{Addr}
-use Rattle.ip_udp_view.specs.declared.addr.Addr.TheVariants.{V4, V6}
+use Rattle.wire.specs.Frame.{Frame, size}
+use Rattle.wire.specs.declared.ip_udp.addr.Addr.{Addr}
+use Rattle.wire.specs.declared.ip_udp.addr.Addr.TheVariants.{V4, V6}
 use Rattle.filter_db.specs.declared.place.Place.{Place}
 use Rattle.filter_db.specs.declared.place.Place.TheVariants.{Local, Remote}
-use Rattle.vlan_ports.specs.Ports.{Ports, is_port, egress_at}
-use Rattle.underlay.specs.Overlay.{Overlay, tunnel_at}
-use Rattle.underlay.specs.Settings.{hop_to}
-use Rattle.underlay.specs.declared.tunnels.SegmentTunnel.{SegmentTunnel}
+use Rattle.overlay.specs.Ports.{Ports, is_port, egress_at}
+use Rattle.overlay.specs.Overlay.{Overlay, tunnel_at}
+use Rattle.overlay.specs.UnderlaySettings.{hop_to}
+use Rattle.overlay.specs.declared.underlay.tunnels.SegmentTunnel.{SegmentTunnel}
 use Rattle.encapsulate.specs.Remote.{admits, headers}
-use Rattle.endpoint_state.specs.Settings.{Settings}
+use Rattle.endpoint_core.specs.Settings.{Settings}
 use Rattle.endpoint_core.specs.Decision.{Sent}
 use Rattle.event_story.specs.declared.fact.Fact.{Fact}
 use Rattle.event_story.specs.declared.fact.Fact.TheVariants as facts

@@ -1,28 +1,28 @@
 -- How a packet of the underlay comes to a segment, test by test (RFC 7348, 4 and 5; RFC 8926, 3).
 use Rattle.std.specs.Prelude.{ℕ, not, is_none, if◌then◌else◌, List, [], ◌∷◌, ◌++◌, length, Option, Some, None, Result}
 use Rattle.std.specs.Option.{option_map, option_and_then}
-use Rattle.frame_view.specs.First.{first}
-use Rattle.frame_view.specs.declared.reason.Reason.{Reason}
-use Rattle.frame_view.specs.declared.reason.Reason.TheVariants.{TooLong, Sliced, Runt, NotIp, BadIp, BadIpSum, BadOuterSource}
-use Rattle.frame_view.specs.declared.reason.Reason.TheVariants.{NotForUs, Fragment, NotUdp, BadUdp, NotTunnel, ZeroSum}
-use Rattle.frame_view.specs.declared.reason.Reason.TheVariants.{BadUdpSum, ShortTunnel, NoVniFlag, BadVersion, Control}
-use Rattle.frame_view.specs.declared.reason.Reason.TheVariants.{NotEthernet, BadOptions, CriticalOption, UnknownVni, WrongGroup}
-use Rattle.frame_view.specs.declared.reason.Reason.TheVariants.{UnknownPeer, InnerRunt, BadSource, Reserved, InnerTag}
-use Rattle.frame_view.specs.declared.reason.Refused.{Refused}
-use Rattle.ip_udp_view.specs.declared.addr.Tunnel.{Tunnel}
-use Rattle.ip_udp_view.specs.declared.addr.Tunnel.TheVariants.{Vxlan, Geneve}
-use Rattle.ip_udp_view.specs.Addr.{is_group}
-use Rattle.ip_udp_view.specs.Parts.{Parts}
-use Rattle.ip_udp_view.specs.Udp.{sport, dport, udp_faults, udp_parts, sum_state}
-use Rattle.vxlan_head.specs.Reading.{vxlan_faults, vxlan_vni, vxlan_inner}
-use Rattle.geneve_head.specs.Reading.{geneve_faults, geneve_vni, geneve_inner}
-use Rattle.underlay.specs.declared.segment.Segment.{Segment}
-use Rattle.underlay.specs.declared.settings.Underlay.{Underlay}
-use Rattle.underlay.specs.Overlay.{Overlay, segment_at, is_listed}
-use Rattle.underlay.specs.Settings.{is_own, kind_at}
+use Rattle.wire.specs.First.{first}
+use Rattle.wire.specs.declared.ether.reason.Reason.{Reason}
+use Rattle.wire.specs.declared.ether.reason.Reason.TheVariants.{TooLong, Sliced, Runt, NotIp, BadIp, BadIpSum, BadOuterSource}
+use Rattle.wire.specs.declared.ether.reason.Reason.TheVariants.{NotForUs, Fragment, NotUdp, BadUdp, NotTunnel, ZeroSum}
+use Rattle.wire.specs.declared.ether.reason.Reason.TheVariants.{BadUdpSum, ShortTunnel, NoVniFlag, BadVersion, Control}
+use Rattle.wire.specs.declared.ether.reason.Reason.TheVariants.{NotEthernet, BadOptions, CriticalOption, UnknownVni, WrongGroup}
+use Rattle.wire.specs.declared.ether.reason.Reason.TheVariants.{UnknownPeer, InnerRunt, BadSource, Reserved, InnerTag}
+use Rattle.wire.specs.declared.ether.reason.Refused.{Refused}
+use Rattle.wire.specs.declared.ip_udp.addr.Tunnel.{Tunnel}
+use Rattle.wire.specs.declared.ip_udp.addr.Tunnel.TheVariants.{Vxlan, Geneve}
+use Rattle.wire.specs.Addr.{is_group}
+use Rattle.wire.specs.IpParts.{Parts}
+use Rattle.wire.specs.Udp.{sport, dport, udp_faults, udp_parts, sum_state}
+use Rattle.wire.specs.VxlanReading.{vxlan_faults, vxlan_vni, vxlan_inner}
+use Rattle.wire.specs.GeneveReading.{geneve_faults, geneve_vni, geneve_inner}
+use Rattle.overlay.specs.declared.underlay.segment.Segment.{Segment}
+use Rattle.overlay.specs.declared.underlay.settings.Underlay.{Underlay}
+use Rattle.overlay.specs.Overlay.{Overlay, segment_at, is_listed}
+use Rattle.overlay.specs.UnderlaySettings.{is_own, kind_at}
 use Rattle.decapsulate.specs.Arrival.{Packet, packet_in, frame_reasons}
 use Rattle.endpoint_core.specs.Arrival.{came_by}
-use Rattle.endpoint_core.specs.Came.{Came}
+use Rattle.endpoint_core.specs.Arrival.{Arrival}
 use Rattle.event_story.specs.Carried.{Carried}
 use Rattle.event_story.specs.Ether.{header_fact, source_fact, destination_fact, tag_fact}
 use Rattle.endpoint_core.specs.Among.{segment_of}
@@ -75,11 +75,11 @@ carried_in S b = option_and_then (carried_by S) (datagram_in b)
 -- ---- what each test saw
 
 -- only a test that refuses has this to tell
-abbrev pub if_refuses : Result Came Refused → Reason → Fact → Option Fact
+abbrev pub if_refuses : Result Arrival Refused → Reason → Fact → Option Fact
 if_refuses came test fact = if refuses (refusal_of came) test then Some fact else None
 
 -- or else that
-abbrev pub or_else : Result Came Refused → Reason → Fact → Option Fact → Option Fact
+abbrev pub or_else : Result Arrival Refused → Reason → Fact → Option Fact → Option Fact
 or_else came test fact otherwise = if refuses (refusal_of came) test then Some fact else otherwise
 
 -- a tunnel header that is refused
@@ -87,7 +87,7 @@ abbrev pub header_fact_of : Overlay → List ℕ → Reason → Option Fact
 header_fact_of S b test = option_map (λ kind. facts.Header kind test) (option_and_then (kind_of S.underlay) (datagram_in b))
 
 -- the same of a test, where it is the one that refuses
-abbrev pub header_refused : Overlay → List ℕ → Result Came Refused → Reason → Option Fact
+abbrev pub header_refused : Overlay → List ℕ → Result Arrival Refused → Reason → Option Fact
 header_refused S b came test = if refuses (refusal_of came) test then header_fact_of S b test else None
 
 -- the segment of a VNI
@@ -112,15 +112,15 @@ abbrev pub sum_fact : Packet × Parts → Fact
 sum_fact found = facts.Sum (sum_state found.0.source found.0.destination (found.1.head ++ found.1.payload))
 
 -- whether the sender may send to a segment
-abbrev pub peer_fact : Result Came Refused → Segment → Fact
+abbrev pub peer_fact : Result Arrival Refused → Segment → Fact
 peer_fact came g = if is_listed g then facts.Peer (not (refuses (refusal_of came) UnknownPeer)) else facts.AnyPeer
 
 -- whether a group's packets are for a segment
-abbrev pub group_fact : Result Came Refused → Packet → Option Fact
+abbrev pub group_fact : Result Arrival Refused → Packet → Option Fact
 group_fact came p = if is_group p.destination then Some (facts.Group (not (refuses (refusal_of came) WrongGroup))) else None
 
 -- what a test saw of a packet that came so to a segment, or to none
-abbrev pub packet_fact : Overlay → ℕ → List ℕ → Result Came Refused → Reason → Option Fact
+abbrev pub packet_fact : Overlay → ℕ → List ℕ → Result Arrival Refused → Reason → Option Fact
 packet_fact S original b came TooLong = Some (facts.Length (length b) 65549)
 packet_fact S original b came Sliced = Some (facts.Captured (length b) original)
 packet_fact S original b came Runt = Some (header_fact b)
@@ -145,7 +145,7 @@ packet_fact S original b came InnerTag = or_else came InnerTag facts.InnerTag (o
 packet_fact S original b came test = header_refused S b came test
 
 -- what the tests saw of a packet that came so
-abbrev pub packet_facts_of : Overlay → ℕ → List ℕ → Result Came Refused → List Fact
+abbrev pub packet_facts_of : Overlay → ℕ → List ℕ → Result Arrival Refused → List Fact
 packet_facts_of S original b came = told (packet_fact S original b came) (refusal_of came) packet_tests
 
 -- what the tests saw of a packet

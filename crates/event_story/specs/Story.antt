@@ -1,20 +1,20 @@
 -- The story of an event: what each test saw, and then the decision line. It states no standard.
 use Rattle.std.specs.Prelude.{ℕ, nat_le, ◌&&◌, Bool, true, if◌then◌else◌, List, [], ◌++◌, length, slice_get, None, Result, Ok, Err}
 use Rattle.std.specs.Option.{option_map_or}
-use Rattle.frame_view.specs.declared.reason.Refused.{Refused}
-use Rattle.vlan_ports.specs.Ports.{is_port}
+use Rattle.wire.specs.declared.ether.reason.Refused.{Refused}
+use Rattle.overlay.specs.Ports.{is_port}
 use Rattle.timeline.specs.declared.event.Event.{Event as Happens}
 use Rattle.timeline.specs.declared.event.Happening.{Happening}
 use Rattle.timeline.specs.declared.event.Happening.TheVariants as happenings
 use Rattle.timeline.specs.declared.source.Tap.TheVariants as taps
-use Rattle.endpoint_state.specs.State.{State as Bridges, aged}
-use Rattle.endpoint_core.specs.Came.{Came}
+use Rattle.endpoint_core.specs.State.{State as Bridges, aged}
+use Rattle.endpoint_core.specs.Arrival.{Arrival}
 use Rattle.endpoint_core.specs.Arrival.{came_at, came_by}
 use Rattle.endpoint_core.specs.Decision.{Decision}
 use Rattle.endpoint_core.specs.Event.{frame_at, packet_at}
 use Rattle.endpoint_core.specs.Step.{State, Answer, answer, decided}
 use Rattle.decision_lines.specs.Lines.{line, answer_text}
-use Rattle.overlay_settings.specs.declared.change.TimedChange.{TimedChange}
+use Rattle.overlay.specs.declared.settings.change.TimedChange.{TimedChange}
 use Rattle.change_story.specs.Story.{change_story}
 use Rattle.event_story.specs.Bridge.{bridge_facts}
 use Rattle.event_story.specs.Line.{facts_text}
@@ -25,7 +25,7 @@ use Rattle.event_story.specs.declared.fact.Fact.{Fact}
 
 -- what the bridge of its segment makes of a frame that comes to one at moment t, of which this is decided, and how it
 -- leaves at each outlet: in the state that the last event left, and in the same at that moment
-abbrev pub came_facts : ℕ → Bridges → Bridges → Result Came Refused → Decision → List Fact
+abbrev pub came_facts : ℕ → Bridges → Bridges → Result Arrival Refused → Decision → List Fact
 came_facts t left B (Ok x) d = bridge_facts t left B x d.dropped ++ outlet_facts B.settings x.vid x.frame d.outcomes
 came_facts t left B (Err refused) d = []
 

@@ -1,14 +1,14 @@
 -- Which tests are told: all up to the one that refuses. It states no standard.
 use Rattle.std.specs.Prelude.{ℕ, ◌==◌, ◌++◌, Bool, false, if◌then◌else◌, List, [], ◌∷◌, Option, Some, None, Result, Ok, Err}
 use Rattle.std.specs.Option.{option_to_list}
-use Rattle.frame_view.specs.Reason.{number_of}
-use Rattle.frame_view.specs.declared.reason.Reason.{Reason}
-use Rattle.frame_view.specs.declared.reason.Refused.{Refused}
-use Rattle.endpoint_core.specs.Came.{Came}
+use Rattle.wire.specs.Reason.{number_of}
+use Rattle.wire.specs.declared.ether.reason.Reason.{Reason}
+use Rattle.wire.specs.declared.ether.reason.Refused.{Refused}
+use Rattle.endpoint_core.specs.Arrival.{Arrival}
 use Rattle.event_story.specs.declared.fact.Fact.{Fact}
 
 -- why a frame comes to no segment, if it doesn't
-abbrev pub refusal_of : Result Came Refused → Option Reason
+abbrev pub refusal_of : Result Arrival Refused → Option Reason
 refusal_of (Ok x) = None
 refusal_of (Err refused) = Some refused.reason
 

@@ -1,20 +1,20 @@
 //! What the bridge of a segment knows of the addresses of a frame, and what that makes of it.
 ghost use Rattle.std.specs.Prelude.{◌≡◌, ◌≤◌, ◌++◌, IsSome, OnOk};
 ghost use Rattle.tunnel_learning.specs.Bridge as bridges;
-ghost use Rattle.endpoint_state.specs.Held.{settings_of, state_at, moment_of};
-ghost use Rattle.endpoint_state.specs.Settings.{segment_at};
+ghost use Rattle.endpoint_core.specs.Held.{settings_of, state_at, moment_of};
+ghost use Rattle.endpoint_core.specs.Settings.{segment_at};
 ghost use Rattle.event_story.specs.Bridge.{learned_fact, source_fact, place_fact, flood_fact, aim_by, aim_fact, bridge_told, bridge_facts};
 
 use crate::fact::Fact;
 use crate::flood::put_flooded_facts;
 use crate::known::{known_fact, stood_fact};
 use crate::refusal::{put, put_one};
-use endpoint_core::Came;
-use endpoint_state::EndpointState;
+use endpoint_core::Arrival;
+use endpoint_core::state::EndpointState;
 use filter_db::{Entry, Place};
-use frame_view::Reason;
 use std::alloc::AllocError;
 use tunnel_learning::Bridge;
+use wire::ether::Reason;
 
 /// Puts what there is to tell of a frame that came to a segment at a moment, and that is dropped for this reason, if it
 /// is, behind some facts. `left` is the moment of the last event. Neither moment is before that of the tables.
@@ -24,7 +24,7 @@ pub(crate) fn put_bridge_facts(
     state: &EndpointState,
     left: u64,
     now: u64,
-    came: &Came,
+    came: &Arrival,
     dropped: Option<Reason>,
 ) -> Result<(), AllocError>
     requires left { moment_of state.now ≤ left }

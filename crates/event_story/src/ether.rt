@@ -3,7 +3,7 @@ ghost use Rattle.std.specs.Prelude.{◌≡◌};
 ghost use Rattle.event_story.specs.Ether.{header_fact, source_fact, destination_fact, tag_fact, vid_in, has_vid};
 
 use crate::fact::Fact;
-use frame_view::{EtherView, Tagging};
+use wire::ether::{EtherView, Tagging};
 
 /// Both addresses, or that there are too few octets.
 pub(crate) fn header_fact(octets: &[u8]) -> Fact

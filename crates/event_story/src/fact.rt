@@ -1,8 +1,8 @@
 //! What a test saw.
 use filter_db::{Entry, Place};
-use frame_view::{Mac, Reason};
-use ip_udp_view::{Addr, SumState, Tunnel};
-use vlan_ports::Egress;
+use overlay::ports::Egress;
+use wire::ether::{Mac, Reason};
+use wire::ip_udp::{Addr, SumState, Tunnel};
 
 /// What a test of a frame or a packet saw.
 #[derive(Clone, Copy)]

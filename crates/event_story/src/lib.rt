@@ -13,6 +13,9 @@
 //! the decision line that the run writes. Of more than 16 ports those that follow each other and are left out for the same cause
 //! are one fact. The endpoint stays as it is.
 //!
+//! Proved besides:
+//! - An event can come to an endpoint where it isn't before the last one and is at a port that is there: `can_come`.
+//!
 //! Why it is so: a story is told from the state before the event, without a step. Where the bridge would send the frame is
 //! asked by the place of its destination (`EndpointState::foresee`), and what leaves there is measured and not made
 //! (`Endpoint::size_at`). So a story needs no hook behind the step and no room for 32 emissions, and its last line is proved to

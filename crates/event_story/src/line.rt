@@ -8,12 +8,12 @@ use crate::phrase::{
     put_ip, put_known, put_learned, put_no_vni, put_ports, put_protocol, put_segment, put_short,
     put_tag, put_tunnel_port, put_vni,
 };
-use filter_db::Place;
-use std::alloc::AllocError;
-use story_words::{
+use change_story::words::{
     destination_word, either, group_word, put_behind_place, put_listed, put_member, put_name,
     put_stood, put_up, receiver_word, sum_word,
 };
+use filter_db::Place;
+use std::alloc::AllocError;
 
 /// Puts the lines of some facts behind a text. `AllocError`: there was no room for them.
 pub(crate) fn put_facts(text: &mut String, facts: &[Fact]) -> Result<(), AllocError>

@@ -5,10 +5,10 @@ ghost use Rattle.event_story.specs.Local.{local_tests, vid_at, segment_fact, loc
 use crate::ether::{destination_fact, has_vid, header_fact, source_fact, tag_fact, vid_in};
 use crate::fact::Fact;
 use crate::refusal::{put, refusal_of, refuses};
-use endpoint_core::{Came, segment_of};
-use frame_view::{Reason, Refused, Vid};
+use endpoint_core::{Arrival, segment_of};
+use overlay::ports::PortSet;
 use std::alloc::AllocError;
-use vlan_ports::PortSet;
+use wire::ether::{Reason, Refused, Vid};
 
 /// Puts what each test saw of octets at a local port, up to the one that refuses, behind some facts. The octets came so to a
 /// segment or to none. The port is 1 to [`PortSet::ports`]. `AllocError`: there was no room for them.
@@ -18,7 +18,7 @@ pub(crate) fn put_local_facts(
     port: u8,
     original: u32,
     octets: &[u8],
-    came: &Result<Came, Refused>,
+    came: &Result<Arrival, Refused>,
 ) -> Result<(), AllocError>
     requires low { 1 ≤ port }
     requires high { port ≤ length ports.now.ports }
@@ -62,7 +62,7 @@ fn local_fact(
     port: u8,
     original: u32,
     octets: &[u8],
-    came: &Result<Came, Refused>,
+    came: &Result<Arrival, Refused>,
     test: Reason,
 ) -> Option<Fact>
     requires low { 1 ≤ port }

@@ -1,19 +1,19 @@
 //! The result in the last line of a story.
 ghost use Rattle.std.specs.Prelude.{◌≡◌, ◌++◌, map, IsSome, IsTrue, OnOk, codes, decimal, string_bytes};
 ghost use Rattle.std.specs.List.{list_all};
-ghost use Rattle.frame_view.specs.Reason.{name_of, number_of};
-ghost use Rattle.endpoint_state.specs.Settings.{segment_at};
-ghost use Rattle.endpoint_state.specs.Step.{can_leave};
+ghost use Rattle.wire.specs.Reason.{name_of, number_of};
+ghost use Rattle.endpoint_core.specs.Settings.{segment_at};
+ghost use Rattle.endpoint_core.specs.StateStep.{can_leave};
 ghost use Rattle.endpoint_core.specs.Kept.{state_of};
 ghost use Rattle.endpoint_core.specs.Step.{has_two_tunnels, sent_at};
 ghost use Rattle.endpoint_core.specs.Text.{outcome_text, outcomes_text};
 ghost use Rattle.decision_lines.specs.Outcomes.{count_text};
 
-use endpoint_core::{Came, Endpoint, put_place};
+use endpoint_core::{Arrival, Endpoint, put_place};
 use filter_db::Place;
-use frame_view::Reason;
 use std::alloc::AllocError;
 use std::fmt::Write;
+use wire::ether::Reason;
 
 /// Puts that a frame or packet is dropped, and why. `AllocError`: there was no room for it.
 pub(crate) fn put_drop(text: &mut String, reason: Reason) -> Result<(), AllocError>
@@ -30,7 +30,7 @@ pub(crate) fn put_drop(text: &mut String, reason: Reason) -> Result<(), AllocErr
 pub(crate) fn put_outcomes(
     text: &mut String,
     endpoint: &Endpoint,
-    came: &Came,
+    came: &Arrival,
     places: &[Place],
 ) -> Result<(), AllocError>
     requires there { IsSome (segment_at (state_of endpoint.now).bridges.settings came.now.vid) }
@@ -56,7 +56,7 @@ pub(crate) fn put_outcomes(
 fn put_outcome(
     text: &mut String,
     endpoint: &Endpoint,
-    came: &Came,
+    came: &Arrival,
     two_tunnels: bool,
     place: Place,
 ) -> Result<(), AllocError>

@@ -1,20 +1,20 @@
 //! How a frame leaves at each of its outlets.
 ghost use Rattle.std.specs.Prelude.{◌≡◌, ◌++◌, OnOk, map};
 ghost use Rattle.std.specs.Option.{option_map};
-ghost use Rattle.underlay.specs.Overlay.{tunnel_at};
-ghost use Rattle.endpoint_state.specs.Held.{settings_of};
+ghost use Rattle.overlay.specs.Overlay.{tunnel_at};
+ghost use Rattle.endpoint_core.specs.Held.{settings_of};
 ghost use Rattle.endpoint_core.specs.Step.{sent_at};
 ghost use Rattle.event_story.specs.Outlets.{port_fact, tunnel_fact, outlet_fact, outlet_facts};
 
 use crate::fact::Fact;
 use crate::refusal::put;
 use encapsulate::{headers, unsent};
-use endpoint_state::EndpointState;
+use endpoint_core::state::EndpointState;
 use filter_db::Place;
-use frame_view::{BridgeFrame, Vid};
-use ip_udp_view::{Addr, Tunnel};
+use overlay::underlay::Overlay;
 use std::alloc::AllocError;
-use underlay::Under;
+use wire::ether::{BridgeFrame, Vid};
+use wire::ip_udp::{Addr, Tunnel};
 
 /// The octets of both MAC addresses.
 const ADDRESSES: usize = 12;
@@ -63,7 +63,7 @@ fn port_fact(state: &EndpointState, vid: Vid, port: u8) -> Option<Fact>
 
 /// How a frame leaves in a tunnel of its segment.
 fn tunnel_fact(
-    under: &Under,
+    under: &Overlay,
     vid: Vid,
     frame: &BridgeFrame,
     kind: Tunnel,

@@ -1,7 +1,7 @@
 //! How a packet of the underlay comes to a segment, test by test.
 ghost use Rattle.std.specs.Prelude.{◌≡◌, ◌++◌, OnOk};
 ghost use Rattle.std.specs.Option.{option_map, option_and_then};
-ghost use Rattle.underlay.specs.Overlay.{segment_at};
+ghost use Rattle.overlay.specs.Overlay.{segment_at};
 ghost use Rattle.event_story.specs.Ether as ether;
 ghost use Rattle.event_story.specs.Packet.{packet_tests, packet_if, datagram_in, carried_in, if_refuses, or_else};
 ghost use Rattle.event_story.specs.Packet.{header_refused, vni_fact, ip_fact, receiver_fact, udp_fact, sum_fact};
@@ -13,19 +13,19 @@ use crate::ether::{destination_fact, header_fact, source_fact, tag_fact};
 use crate::fact::Fact;
 use crate::reading::{carried_in, datagram_in, kind_in, packet_if};
 use crate::refusal::{put, refusal_of, refuses};
-use endpoint_core::{Came, segment_of};
-use frame_view::{Reason, Refused, Vid};
+use endpoint_core::{Arrival, segment_of};
+use overlay::underlay::{Overlay, PeerRule};
 use std::alloc::AllocError;
-use underlay::{PeerRule, Under};
+use wire::ether::{Reason, Refused, Vid};
 
 /// Puts what each test saw of a packet of the underlay, up to the one that refuses, behind some facts. The packet came so to a
 /// segment or to none. `AllocError`: there was no room for them.
 pub(crate) fn put_packet_facts(
     facts: &mut Vec<Fact>,
-    under: &Under,
+    under: &Overlay,
     original: u32,
     octets: &[u8],
-    came: &Result<Came, Refused>,
+    came: &Result<Arrival, Refused>,
 ) -> Result<(), AllocError>
     ensures { OnOk result (facts.new.items ≡ facts.old.items ++ packet_facts_of under.now original octets.now came.now) }
 {
@@ -79,10 +79,10 @@ fn packet_tests() -> [Reason; 28]
 
 /// What a test saw.
 fn packet_fact(
-    under: &Under,
+    under: &Overlay,
     original: u32,
     octets: &[u8],
-    came: &Result<Came, Refused>,
+    came: &Result<Arrival, Refused>,
     test: Reason,
 ) -> Option<Fact>
     ensures { result ≡ packet_fact under.now original octets.now came.now test }
@@ -122,7 +122,7 @@ fn packet_fact(
 }
 
 /// A fact that only a test which refuses has to tell.
-fn if_refuses(came: &Result<Came, Refused>, test: Reason, fact: Fact) -> Option<Fact>
+fn if_refuses(came: &Result<Arrival, Refused>, test: Reason, fact: Fact) -> Option<Fact>
     ensures { result ≡ if_refuses came.now test fact }
 {
     or_else(came, test, fact, None)
@@ -130,7 +130,7 @@ fn if_refuses(came: &Result<Came, Refused>, test: Reason, fact: Fact) -> Option<
 
 /// The one fact where the test refuses, or else the other.
 fn or_else(
-    came: &Result<Came, Refused>,
+    came: &Result<Arrival, Refused>,
     test: Reason,
     fact: Fact,
     otherwise: Option<Fact>,
@@ -156,7 +156,7 @@ fn ip_fact(octets: &[u8]) -> Option<Fact>
 }
 
 /// Whose its destination is.
-fn receiver_fact(under: &Under, octets: &[u8]) -> Option<Fact>
+fn receiver_fact(under: &Overlay, octets: &[u8]) -> Option<Fact>
     ensures { result ≡ option_map (receiver_fact under.now.underlay) (packet_if octets.now) }
 {
     let packet = packet_if(octets)?;
@@ -188,7 +188,7 @@ fn udp_fact(octets: &[u8]) -> Option<Fact>
 }
 
 /// The tunnels at its port.
-fn tunnel_port_fact(under: &Under, octets: &[u8]) -> Option<Fact>
+fn tunnel_port_fact(under: &Overlay, octets: &[u8]) -> Option<Fact>
     ensures { result ≡ option_map (λ found. facts.TunnelPort (kind_of under.now.underlay found)) (datagram_in octets.now) }
 {
     let (_packet, datagram) = datagram_in(octets)?;
@@ -209,9 +209,9 @@ fn sum_fact(octets: &[u8]) -> Option<Fact>
 
 /// A tunnel header that is refused.
 fn header_refused(
-    under: &Under,
+    under: &Overlay,
     octets: &[u8],
-    came: &Result<Came, Refused>,
+    came: &Result<Arrival, Refused>,
     test: Reason,
 ) -> Option<Fact>
     ensures { result ≡ header_refused under.now octets.now came.now test }
@@ -224,7 +224,7 @@ fn header_refused(
 }
 
 /// The segment of the VNI in a frame.
-fn vni_fact(under: &Under, octets: &[u8], segment: Option<Vid>) -> Option<Fact>
+fn vni_fact(under: &Overlay, octets: &[u8], segment: Option<Vid>) -> Option<Fact>
     ensures { result ≡ option_map (vni_fact segment) (carried_in under.now octets.now) }
 {
     let carried = carried_in(under, octets)?;
@@ -240,7 +240,7 @@ fn vni_fact(under: &Under, octets: &[u8], segment: Option<Vid>) -> Option<Fact>
 }
 
 /// Whether a group's packets are for the segment.
-fn group_fact(octets: &[u8], came: &Result<Came, Refused>) -> Option<Fact>
+fn group_fact(octets: &[u8], came: &Result<Arrival, Refused>) -> Option<Fact>
     ensures { result ≡ option_and_then (group_fact came.now) (packet_if octets.now) }
 {
     let packet = packet_if(octets)?;
@@ -253,7 +253,7 @@ fn group_fact(octets: &[u8], came: &Result<Came, Refused>) -> Option<Fact>
 }
 
 /// Whether the sender may send to the segment.
-fn peer_fact(under: &Under, came: &Result<Came, Refused>) -> Option<Fact>
+fn peer_fact(under: &Overlay, came: &Result<Arrival, Refused>) -> Option<Fact>
     ensures { result ≡ option_map (peer_fact came.now) (option_and_then (segment_at under.now) (segment_of came.now)) }
 {
     let vid = segment_of(came)?;
@@ -269,7 +269,7 @@ fn peer_fact(under: &Under, came: &Result<Came, Refused>) -> Option<Fact>
 }
 
 /// The addresses of the frame in the tunnel.
-fn inner_header_fact(under: &Under, octets: &[u8]) -> Option<Fact>
+fn inner_header_fact(under: &Overlay, octets: &[u8]) -> Option<Fact>
     ensures { result ≡ option_map (λ x. ether.header_fact x.inner) (carried_in under.now octets.now) }
 {
     let carried = carried_in(under, octets)?;
@@ -277,7 +277,7 @@ fn inner_header_fact(under: &Under, octets: &[u8]) -> Option<Fact>
 }
 
 /// Whether its source is a group's address.
-fn inner_source_fact(under: &Under, octets: &[u8]) -> Option<Fact>
+fn inner_source_fact(under: &Overlay, octets: &[u8]) -> Option<Fact>
     ensures { result ≡ option_and_then (λ x. ether.source_fact x.inner) (carried_in under.now octets.now) }
 {
     let carried = carried_in(under, octets)?;
@@ -285,7 +285,7 @@ fn inner_source_fact(under: &Under, octets: &[u8]) -> Option<Fact>
 }
 
 /// Whether its destination is a group's address, or reserved.
-fn inner_destination_fact(under: &Under, octets: &[u8]) -> Option<Fact>
+fn inner_destination_fact(under: &Overlay, octets: &[u8]) -> Option<Fact>
     ensures { result ≡ option_and_then (λ x. ether.destination_fact x.inner) (carried_in under.now octets.now) }
 {
     let carried = carried_in(under, octets)?;
@@ -293,7 +293,7 @@ fn inner_destination_fact(under: &Under, octets: &[u8]) -> Option<Fact>
 }
 
 /// Its tag.
-fn inner_tag_fact(under: &Under, octets: &[u8]) -> Option<Fact>
+fn inner_tag_fact(under: &Overlay, octets: &[u8]) -> Option<Fact>
     ensures { result ≡ option_and_then (λ x. ether.tag_fact x.inner) (carried_in under.now octets.now) }
 {
     let carried = carried_in(under, octets)?;

@@ -1,19 +1,19 @@
 //! What tests saw: values between words.
 ghost use Rattle.std.specs.Prelude.{◌≡◌, ◌++◌, if◌then◌else◌, OnOk, codes, decimal, string_bytes};
 ghost use Rattle.endpoint_core.specs.Text.{addr_text};
-ghost use Rattle.story_words.specs.Words.{mac_text, place_text, port_text, tunnel_word, origin_word, egress_word, stood_text};
+ghost use Rattle.change_story.specs.Words.{mac_text, place_text, port_text, tunnel_word, origin_word, egress_word, stood_text};
 ghost use Rattle.event_story.specs.Line.{unsent_text, length_text, learned_text, known_text, ports_text, tunnel_port_text};
 
-use endpoint_core::put_addr;
-use filter_db::{Entry, Place};
-use frame_view::{Mac, Reason};
-use ip_udp_view::{Addr, Tunnel};
-use std::alloc::AllocError;
-use std::fmt::Write;
-use story_words::{
+use change_story::words::{
     egress_word, either, origin_word, put_at, put_hop, put_mac, put_name, put_stood, tunnel_word,
 };
-use vlan_ports::Egress;
+use endpoint_core::put_addr;
+use filter_db::{Entry, Place};
+use overlay::ports::Egress;
+use std::alloc::AllocError;
+use std::fmt::Write;
+use wire::ether::{Mac, Reason};
+use wire::ip_udp::{Addr, Tunnel};
 
 /// Puts two numbers, each behind its words.
 pub(crate) fn put_both(

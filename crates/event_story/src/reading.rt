@@ -4,12 +4,12 @@ ghost use Rattle.event_story.specs.Packet.{packet_if, datagram_if, inner_if, dat
 ghost use Rattle.std.specs.Option.{option_and_then};
 
 use decapsulate::{Packet, ip_view};
-use frame_view::EtherView;
-use geneve_head::{GnView, Known};
-use ip_udp_view::{Tunnel, UdpView};
+use overlay::underlay::Overlay;
 use std::marker::Model;
-use underlay::Under;
-use vxlan_head::VxView;
+use wire::ether::EtherView;
+use wire::geneve::{GeneveView, Known};
+use wire::ip_udp::{Tunnel, UdpView};
+use wire::vxlan::VxlanView;
 
 /// The most VLAN tags in front of the type of an outer frame.
 const MOST_TAGS: usize = 2;
@@ -70,7 +70,7 @@ fn inner_if<'a>(known: &Known, octets: &'a [u8], kind: Tunnel) -> Option<Carried
     ensures { result ≡ inner_if known.now octets.now kind }
 {
     match kind {
-        Tunnel::Vxlan => match VxView::read(octets) {
+        Tunnel::Vxlan => match VxlanView::read(octets) {
             Ok(view) => Some(Carried {
                 kind,
                 vni: view.vni().get(),
@@ -78,7 +78,7 @@ fn inner_if<'a>(known: &Known, octets: &'a [u8], kind: Tunnel) -> Option<Carried
             }),
             Err(_) => None,
         },
-        Tunnel::Geneve => match GnView::read(octets, known) {
+        Tunnel::Geneve => match GeneveView::read(octets, known) {
             Ok(view) => Some(Carried {
                 kind,
                 vni: view.vni().get(),
@@ -90,7 +90,7 @@ fn inner_if<'a>(known: &Known, octets: &'a [u8], kind: Tunnel) -> Option<Carried
 }
 
 /// What stands in the tunnel of a frame.
-pub(crate) fn carried_in<'a>(under: &Under, octets: &'a [u8]) -> Option<Carried<'a>>
+pub(crate) fn carried_in<'a>(under: &Overlay, octets: &'a [u8]) -> Option<Carried<'a>>
     ensures { result ≡ carried_in under.now octets.now }
 {
     let (_packet, datagram) = datagram_in(octets)?;
@@ -99,7 +99,7 @@ pub(crate) fn carried_in<'a>(under: &Under, octets: &'a [u8]) -> Option<Carried<
 }
 
 /// The kind of tunnels at the port of the datagram in a frame.
-pub(crate) fn kind_in(under: &Under, octets: &[u8]) -> Option<Tunnel>
+pub(crate) fn kind_in(under: &Overlay, octets: &[u8]) -> Option<Tunnel>
     ensures { result ≡ option_and_then (kind_of under.now.underlay) (datagram_in octets.now) }
 {
     let (_packet, datagram) = datagram_in(octets)?;

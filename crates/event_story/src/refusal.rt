@@ -4,12 +4,12 @@ ghost use Rattle.std.specs.Option.{option_to_list};
 ghost use Rattle.event_story.specs.Tests.{refusal_of, refuses};
 
 use crate::fact::Fact;
-use endpoint_core::Came;
-use frame_view::{Reason, Refused};
+use endpoint_core::Arrival;
 use std::alloc::AllocError;
+use wire::ether::{Reason, Refused};
 
 /// Why a frame comes to no segment, if it doesn't.
-pub(crate) fn refusal_of(came: &Result<Came, Refused>) -> Option<Reason>
+pub(crate) fn refusal_of(came: &Result<Arrival, Refused>) -> Option<Reason>
     ensures { result ≡ refusal_of came.now }
 {
     match came {

@@ -1,10 +1,10 @@
 //! The story of an event.
 ghost use Rattle.std.specs.Prelude.{◌≡◌, ◌≤◌, ◌++◌, length, Err, IfOk, IsSome, IsTrue, Ok, OnOk, true};
 ghost use Rattle.std.specs.List.{list_all};
-ghost use Rattle.endpoint_state.specs.Settings.{segment_at};
-ghost use Rattle.endpoint_state.specs.Sound.{is_reached};
-ghost use Rattle.endpoint_state.specs.State.{aged};
-ghost use Rattle.endpoint_state.specs.Step.{can_leave};
+ghost use Rattle.endpoint_core.specs.Settings.{segment_at};
+ghost use Rattle.endpoint_core.specs.Sound.{is_reached};
+ghost use Rattle.endpoint_core.specs.State.{aged};
+ghost use Rattle.endpoint_core.specs.StateStep.{can_leave};
 ghost use Rattle.endpoint_core.specs.Decision.{refused_as};
 ghost use Rattle.endpoint_core.specs.Event.{frame_at, packet_at};
 ghost use Rattle.endpoint_core.specs.Kept.{state_of};
@@ -20,14 +20,14 @@ use crate::outcomes::{put_drop, put_outcomes};
 use crate::outlets::put_outlet_facts;
 use crate::packet::put_packet_facts;
 use change_story::story_of_change;
-use endpoint_core::{Came, Course, Endpoint};
+use change_story::words::put_line_front;
+use endpoint_core::{Arrival, Endpoint, Forwarding};
 use filter_db::Place;
-use frame_view::{Reason, Refused};
-use overlay_settings::TimedChange;
+use overlay::settings::TimedChange;
 use std::alloc::{AllocError, Global};
-use story_words::put_line_front;
 use timeline::{Event, Happening, Tap};
 use tunnel_learning::Outlets;
+use wire::ether::{Reason, Refused};
 
 /// The room for facts that a story begins with. More is asked for where there are more.
 const FACTS: usize = 24;
@@ -154,7 +154,7 @@ fn came_story(
     number: u64,
     event: &Event,
     facts: Vec<Fact>,
-    came: &Course,
+    came: &Forwarding,
 ) -> Result<Vec<u8>, AllocError>
     requires time { (state_of endpoint.now).moment ≤ event.now.moment }
     requires there { IfOk came.now (λ x. IsSome (segment_at (state_of endpoint.now).bridges.settings x.vid)) }
@@ -175,7 +175,7 @@ fn bridge_story(
     number: u64,
     event: &Event,
     facts: Vec<Fact>,
-    came: &Came,
+    came: &Arrival,
 ) -> Result<Vec<u8>, AllocError>
     requires time { (state_of endpoint.now).moment ≤ event.now.moment }
     requires there { IsSome (segment_at (state_of endpoint.now).bridges.settings came.now.vid) }
@@ -215,7 +215,7 @@ fn sent_story(
     number: u64,
     event: &Event,
     mut facts: Vec<Fact>,
-    came: &Came,
+    came: &Arrival,
     places: &[Place],
 ) -> Result<Vec<u8>, AllocError>
     requires time { (state_of endpoint.now).moment ≤ event.now.moment }
@@ -239,7 +239,7 @@ fn dropped_story(
     number: u64,
     event: &Event,
     mut facts: Vec<Fact>,
-    came: &Came,
+    came: &Arrival,
     reason: Reason,
 ) -> Result<Vec<u8>, AllocError>
     requires time { (state_of endpoint.now).moment ≤ event.now.moment }
@@ -259,7 +259,7 @@ fn put_facts_of_bridge(
     facts: &mut Vec<Fact>,
     endpoint: &Endpoint,
     event: &Event,
-    came: &Came,
+    came: &Arrival,
     dropped: Option<Reason>,
 ) -> Result<(), AllocError>
     requires time { (state_of endpoint.now).moment ≤ event.now.moment }
@@ -279,7 +279,7 @@ fn sent_told(
     number: u64,
     event: &Event,
     facts: &[Fact],
-    came: &Came,
+    came: &Arrival,
     places: &[Place],
 ) -> Result<Vec<u8>, AllocError>
     requires there { IsSome (segment_at (state_of endpoint.now).bridges.settings came.now.vid) }

@@ -1,8 +1,8 @@
 -- The text that grows packet by packet is that of the whole capture.
 use Rattle.std.proofs.Common.{◌≡◌, ◌∙◌, refl, ap, ℕ, ◌+◌, arith, List, [], ◌∷◌, ◌++◌, map, Result, Ok, Err}
 use Rattle.std.specs.List.{AllByRecursion, flat_map, zip}
-use Rattle.frame_view.specs.declared.reason.Refused.{Refused}
-use Rattle.underlay.specs.Overlay.{Overlay}
+use Rattle.wire.specs.declared.ether.reason.Refused.{Refused}
+use Rattle.overlay.specs.Overlay.{Overlay}
 use Rattle.timeline.specs.Events.{IsEventOf, HappensIn}
 use Rattle.timeline.specs.Order.{IsRising}
 use Rattle.timeline.specs.Timeline.{Timeline}
@@ -10,11 +10,11 @@ use Rattle.timeline.specs.declared.event.Event.{Event as Happens}
 use Rattle.timeline.specs.declared.event.Happening.{Happening}
 use Rattle.timeline.specs.declared.event.Happening.TheVariants.{Change, Record}
 use Rattle.timeline.specs.declared.source.Tap.TheVariants.{Port, Underlay}
-use Rattle.endpoint_state.specs.Settings.{Settings}
-use Rattle.endpoint_state.specs.State.{State as Bridges, aged}
+use Rattle.endpoint_core.specs.Settings.{Settings}
+use Rattle.endpoint_core.specs.State.{State as Bridges, aged}
 use Rattle.endpoint_core.specs.Event as event
 use Rattle.endpoint_core.specs.Arrival.{came_at, came_by}
-use Rattle.endpoint_core.specs.Came.{Came}
+use Rattle.endpoint_core.specs.Arrival.{Arrival}
 use Rattle.endpoint_core.specs.Step.{Answer, State, opened, answer, answers, after, after_came, bridges_after}
 use Rattle.endpoint_core.proofs.Runs.{answers-decisions}
 use Rattle.decision_lines.specs.Lines.{cut_line}
@@ -23,7 +23,7 @@ use Rattle.explanation.specs.declared.text.Values.{Values}
 use Rattle.explanation.specs.Explanation.{event_text, event_texts, explanation}
 use Rattle.explanation.specs.Growing.{texts_from}
 
-came_overlay : (t : ℕ) (B : Bridges) (came : Result Came Refused) → (after_came t B came).settings.overlay ≡ B.settings.overlay
+came_overlay : (t : ℕ) (B : Bridges) (came : Result Arrival Refused) → (after_came t B came).settings.overlay ≡ B.settings.overlay
 came_overlay t B (Ok x) = refl
 came_overlay t B (Err refused) = refl
 

@@ -1,2 +1,4 @@
+pub mod Accepted
 pub mod Faults
 pub mod Growing
+pub mod SameRun

@@ -3,7 +3,7 @@
 use Rattle.std.specs.Prelude.{◌≡◌, ℕ, ◌+◌, List, [], ◌∷◌, ◌++◌, map, Vec, None, Result, Ok, Err}
 use Rattle.std.specs.List.{flat_map, zip}
 use Rattle.std.specs.declared.alloc.Global.{Global}
-use Rattle.underlay.specs.Overlay.{Overlay}
+use Rattle.overlay.specs.Overlay.{Overlay}
 use Rattle.timeline.specs.Timeline.{Timeline, told}
 use Rattle.timeline.specs.declared.event.Event.{Event as Happens}
 use Rattle.timeline.specs.declared.event.Happening.{Happening}
@@ -11,8 +11,8 @@ use Rattle.timeline.specs.declared.event.Happening.TheVariants as happenings
 use Rattle.timeline.specs.declared.fault.TimelineFault.{TimelineFault}
 use Rattle.overlay_config.specs.Fault.{Meaning}
 use Rattle.overlay_config.specs.Settings.{Settings as Told}
-use Rattle.endpoint_state.specs.Opened.{settings_told}
-use Rattle.endpoint_state.specs.Settings.{Settings}
+use Rattle.endpoint_core.specs.Opened.{settings_told}
+use Rattle.endpoint_core.specs.Settings.{Settings}
 use Rattle.endpoint_core.specs.Run.{decisions}
 use Rattle.endpoint_core.specs.Step.{Answer}
 use Rattle.capture_run.specs.Fault.{of_timeline, of_settings}

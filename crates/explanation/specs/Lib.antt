@@ -1,3 +1,5 @@
-pub mod Text
 pub mod Explanation
+pub mod Given
 pub mod Growing
+pub mod Sample
+pub mod Text

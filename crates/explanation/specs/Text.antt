@@ -7,9 +7,9 @@
 --       ip4 14 20 192.0.2.1 > 192.0.2.2 ttl 64 length 96 protocol 17
 use Rattle.std.specs.Prelude.{ℕ, ◌&&◌, Bool, false, not, if◌then◌else◌, List, [], ◌∷◌, ◌++◌, length, codes, decimal}
 use Rattle.std.specs.List.{flat_map}
-use Rattle.frame_view.specs.Reason.{number_of, name_of}
-use Rattle.frame_view.specs.declared.reason.Reason.TheVariants.{BadUdpSum}
-use Rattle.underlay.specs.Overlay.{Overlay}
+use Rattle.wire.specs.Reason.{number_of, name_of}
+use Rattle.wire.specs.declared.ether.reason.Reason.TheVariants.{BadUdpSum}
+use Rattle.overlay.specs.Overlay.{Overlay}
 use Rattle.decapsulate.specs.Card.{is_left_to_card}
 use Rattle.endpoint_core.specs.Decision.{Decision}
 use Rattle.endpoint_core.specs.Text.{result_of}
@@ -17,7 +17,7 @@ use Rattle.packet_layers.specs.declared.kind.Stop.{Stop}
 use Rattle.packet_layers.specs.declared.kind.Stop.TheVariants.{At, Deep}
 use Rattle.packet_layers.specs.Apart.{Span, Head}
 use Rattle.packet_layers.specs.Dissection.{Layers}
-use Rattle.layer_values.specs.Values.{word_of, values_of}
+use Rattle.packet_layers.specs.Values.{word_of, values_of}
 use Rattle.explanation.specs.declared.text.Values.{Values}
 use Rattle.explanation.specs.declared.text.Values.TheVariants.{Hidden, Shown}
 

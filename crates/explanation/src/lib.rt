@@ -13,6 +13,7 @@
 #![tactic(auto)]
 
 mod packets;
+pub mod sample;
 mod text;
 
 pub use packets::explain_bytes;

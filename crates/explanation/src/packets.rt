@@ -4,7 +4,7 @@ ghost use Rattle.std.specs.List.{AllByRecursion, flat_map};
 ghost use Rattle.overlay_config.specs.Settings.{settings_in};
 ghost use Rattle.timeline.specs.Events.{IsEventOf};
 ghost use Rattle.timeline.specs.Order.{IsRising};
-ghost use Rattle.endpoint_state.specs.Opened.{settings_told};
+ghost use Rattle.endpoint_core.specs.Opened.{settings_told};
 ghost use Rattle.endpoint_core.specs.Event.{packet_at};
 ghost use Rattle.endpoint_core.specs.Kept.{state_of};
 ghost use Rattle.endpoint_core.specs.Step.{answer, after};
@@ -18,15 +18,15 @@ ghost use Rattle.explanation.specs.Growing.{text_at, texts_from};
 use crate::text::{Values, write_layers};
 use capture_run::{RunFault, of_captures, of_settings};
 use decapsulate::is_left_to_card;
-use decision_lines::{Desk, Line};
+use decision_lines::{Line, Scratch};
 use endpoint_core::Endpoint;
-use frame_view::Reason;
-use layer_values::Lines;
+use overlay::underlay::Overlay;
 use overlay_config::{Settings, settings_of};
+use packet_layers::words::Lines;
 use packet_layers::{Layers, Stop, dissect};
 use std::alloc::{AllocError, Global};
 use timeline::{Cut, Event, Happening, Tap, Timeline};
-use underlay::Under;
+use wire::ether::Reason;
 
 /// What is lent to each packet: its layers, and their lines.
 #[derive(Drop)]
@@ -113,13 +113,19 @@ fn text_of(
     ensures { IfOk result (λ text. text.items
         ≡ texts_from depth values 0 (state_of endpoint.old) events.now ++ flat_map cut_line cuts.now) }
 {
-    let mut desk = Desk::new();
+    let mut scratch = Scratch::new();
     let mut text = Vec::new(alloc);
     let mut sheet = Sheet::new();
     put_events(
-        &mut text, endpoint, &mut desk, &mut sheet, depth, values, events,
+        &mut text,
+        endpoint,
+        &mut scratch,
+        &mut sheet,
+        depth,
+        values,
+        events,
     )?;
-    put_cuts(&mut text, &mut desk.line, cuts)?;
+    put_cuts(&mut text, &mut scratch.line, cuts)?;
     Ok(text)
 }
 
@@ -127,7 +133,7 @@ fn text_of(
 fn put_packet<'a>(
     text: &mut Vec<u8>,
     endpoint: &mut Endpoint,
-    desk: &mut Desk,
+    scratch: &mut Scratch,
     sheet: &mut Sheet<'a>,
     depth: usize,
     values: Values,
@@ -140,18 +146,18 @@ fn put_packet<'a>(
     requires time { (state_of endpoint.old).moment ≤ event.now.moment }
     ensures state { state_of endpoint.new ≡ after (state_of endpoint.old) (packet_at event.now.moment original octets.now) }
     ensures text { OnOk result (text.new.items ≡ text.old.items
-        ++ (line desk.old.number event.now
+        ++ (line scratch.old.number event.now
         (answer_text None (answer (state_of endpoint.old) (packet_at event.now.moment original octets.now)))
         ++ (layers_text values (dissection (state_of endpoint.old).bridges.settings.overlay depth octets.now)
         ++ card_line (is_left_at (state_of endpoint.old).bridges.settings.overlay octets.now
         (dissection (state_of endpoint.old).bridges.settings.overlay depth octets.now).stop)))) }
-    ensures number { desk.new.number ≡ desk.old.number }
+    ensures number { scratch.new.number ≡ scratch.old.number }
 {
     dissect(&mut sheet.layers, octets, endpoint.under(), depth);
     let is_left = is_left_at(sheet.layers.stop(), endpoint.under(), octets);
-    let course = endpoint.take_packet(event.moment, original, octets, &mut desk.places);
-    desk.write_course(event, endpoint, &course);
-    text.extend_from_slice(desk.line.text())?;
+    let forwarding = endpoint.take_packet(event.moment, original, octets, &mut scratch.places);
+    scratch.write_forwarding(event, endpoint, &forwarding);
+    text.extend_from_slice(scratch.line.text())?;
     put_layers(text, &mut sheet.lines, values, &sheet.layers, is_left)
 }
 
@@ -171,7 +177,7 @@ fn put_layers(
 }
 
 /// Whether a packet is no longer taken apart since its sender left its checksum to the network card.
-fn is_left_at(stop: Stop, under: &Under, octets: &[u8]) -> bool
+fn is_left_at(stop: Stop, under: &Overlay, octets: &[u8]) -> bool
     ensures { result ≡ is_left_at under.now octets.now stop }
 {
     matches!(stop, Stop::At(Reason::BadUdpSum))
@@ -194,7 +200,7 @@ fn card_line(is_left: bool) -> &'static [u8]
 fn put_event<'a>(
     text: &mut Vec<u8>,
     endpoint: &mut Endpoint,
-    desk: &mut Desk,
+    scratch: &mut Scratch,
     sheet: &mut Sheet<'a>,
     depth: usize,
     values: Values,
@@ -206,14 +212,14 @@ fn put_event<'a>(
     requires known { IsEventOf 0 0 event.now }
     ensures state { state_of endpoint.new ≡ after (state_of endpoint.old) (event_of [] event.now) }
     ensures text { OnOk result (text.new.items
-        ≡ text.old.items ++ text_at depth values desk.old.number (state_of endpoint.old) event.now) }
-    ensures number { desk.new.number ≡ desk.old.number }
+        ≡ text.old.items ++ text_at depth values scratch.old.number (state_of endpoint.old) event.now) }
+    ensures number { scratch.new.number ≡ scratch.old.number }
 {
     match &event.happening {
         Happening::Record(Tap::Underlay, captured) => put_packet(
             text,
             endpoint,
-            desk,
+            scratch,
             sheet,
             depth,
             values,
@@ -230,7 +236,7 @@ fn put_event<'a>(
 fn put_events<'a>(
     text: &mut Vec<u8>,
     endpoint: &mut Endpoint,
-    desk: &mut Desk,
+    scratch: &mut Scratch,
     sheet: &mut Sheet<'a>,
     depth: usize,
     values: Values,
@@ -238,14 +244,14 @@ fn put_events<'a>(
 ) -> Result<(), AllocError>
     requires low { 1 ≤ depth }
     requires high { depth ≤ 4 }
-    requires first { desk.old.number ≡ 0 }
+    requires first { scratch.old.number ≡ 0 }
     requires rising { IsRising (state_of endpoint.old).moment events.now }
     requires known { AllByRecursion (IsEventOf 0 0) events.now }
     ensures { OnOk result (text.new.items ≡ text.old.items ++ texts_from depth values 0 (state_of endpoint.old) events.now) }
 {
     for event in events {
-        desk.number.add_one();
-        put_event(text, endpoint, desk, sheet, depth, values, event)?;
+        scratch.number.add_one();
+        put_event(text, endpoint, scratch, sheet, depth, values, event)?;
     }
     Ok(())
 }

@@ -2,12 +2,12 @@
 ghost use Rattle.std.specs.Prelude.{◌≡◌, ◌≤◌, ◌+◌, ◌∷◌, [], ◌++◌, IfOk, codes, decimal, length};
 ghost use Rattle.std.specs.List.{flat_map};
 ghost use Rattle.endpoint_core.specs.Decision.{octets_of};
-ghost use Rattle.layer_values.specs.Values.{word_of};
+ghost use Rattle.packet_layers.specs.Values.{word_of};
 ghost use Rattle.explanation.specs.Text.{shown, head_line, payload_line, tail_line, stop_line, layers_text, explained};
 ghost use Rattle.explanation.specs.declared.text.Values.TheVariants.{Hidden};
 
 use endpoint_core::{Decision, result_text};
-use layer_values::Lines;
+use packet_layers::words::Lines;
 use packet_layers::{Head, HeadKind, Layers, Span, Stop};
 use std::alloc::{AllocError, Global};
 
@@ -16,7 +16,7 @@ use std::alloc::{AllocError, Global};
 pub enum Values {
     /// A header's line is its kind, its place and its length.
     Hidden,
-    /// Behind them stand the values of its fields, as [`layer_values::put_values`] has them.
+    /// Behind them stand the values of its fields, as [`packet_layers::words::put_values`] has them.
     Shown,
 }
 

@@ -1,6 +1,6 @@
 -- Places: the local ports and the remote endpoints of a segment. It states no standard.
 use Rattle.std.specs.Prelude.{Bool, false, ◌&&◌, ◌==◌}
-use Rattle.ip_udp_view.specs.Addr.{same_addr, same_kind}
+use Rattle.wire.specs.Addr.{same_addr, same_kind}
 use Rattle.filter_db.specs.declared.place.Place.{Place}
 use Rattle.filter_db.specs.declared.place.Place.TheVariants.{Local, Remote}
 

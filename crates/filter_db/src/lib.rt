@@ -14,6 +14,15 @@
 //! go and get other limits. What a call costs at most, in counts that tables may keep, is said whatever stands in them.
 //! [`ListTables`] meets [`Tables`].
 //!
+//! Proved besides:
+//! - Each call of the trait `Tables` answers, and leaves, what plain map operations on the tables aged to its moment
+//!   say. Other segments are as aged to it; `look` changes nothing; no call changes the size of the pool.
+//! - `PoolTables` says the same of segments that come, go and get other limits: what an added one begins with, what
+//!   goes with a removed one, and what a lower limit forgets (`specs/Standing`).
+//! - Calls may be counted, and how often they compare an address: each is one call, and `look`, `learn`, `fix` and
+//!   `unfix` compare an address at most 61 times (`specs/Work`), whatever stands in the tables; no other call compares
+//!   one, and no count falls.
+//!
 //! Why it is so: a table is a finite map with only what is live at the table's own moment. Every event first ages the table
 //! to its moment; learning, limits, look-ups and flushes are then plain map operations with no word of liveness. `look`
 //! leaves the tables' moment as it is, so a step without learning does too; every other call moves it on. The shared pool

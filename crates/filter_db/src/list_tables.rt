@@ -5,9 +5,9 @@ ghost use Rattle.filter_db.specs.Database.{slot};
 
 use crate::table::Table;
 use crate::{Learned, NotThere, Place, TableFull, TableRule, Tables};
-use frame_view::{Mac, Vid};
 use std::alloc::{AllocError, Global};
 use std::marker::Model;
+use wire::ether::{Mac, Vid};
 
 /// As many as there are values of 12 bits.
 const VIDS: usize = 4096;

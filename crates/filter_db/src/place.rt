@@ -4,7 +4,7 @@
 ghost use Rattle.std.specs.Prelude.{◌≡◌};
 ghost use Rattle.filter_db.specs.Place.{same_place, no_place};
 
-use ip_udp_view::{Addr, Tunnel};
+use wire::ip_udp::{Addr, Tunnel};
 
 /// Where the frames of a segment come from and go to.
 #[derive(Clone, Copy, Debug, PartialEq, Eq)]

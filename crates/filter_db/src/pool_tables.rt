@@ -4,7 +4,7 @@ ghost use Rattle.filter_db.specs.Segment.{aged_all, segment_at, adjusted, IsRule
 ghost use Rattle.filter_db.specs.Standing.{sum_of_limits, segment_count, added, removed, set_limit_in};
 
 use crate::{TableRule, Tables};
-use frame_view::Vid;
+use wire::ether::Vid;
 
 /// Tables whose segments share a pool of entries, and come, go and get other limits while the tables are used.
 ///

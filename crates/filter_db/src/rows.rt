@@ -4,7 +4,7 @@ ghost use Rattle.std.specs.Ordering.{eq_by_cmp};
 ghost use Rattle.filter_db.specs.Table.{mac_cmp};
 
 use crate::entry::Entry;
-use frame_view::Mac;
+use wire::ether::Mac;
 
 /// Whether two addresses are one.
 pub fn is_same(left: Mac, right: Mac) -> bool

@@ -6,9 +6,9 @@ ghost use Rattle.filter_db.specs.Segment.{new_segment, aged, learn_in, fix_in, u
 
 use crate::entry::Entry;
 use crate::{Learned, NotThere, Place, TableFull, TableRule, rows};
-use frame_view::Mac;
 use std::alloc::{AllocError, Global};
 use std::marker::Model;
+use wire::ether::Mac;
 
 /// One segment's table, seen by contracts as the segment. The memory of all its rows is taken when it is made.
 #[derive(Drop)]

@@ -12,8 +12,8 @@ ghost use Rattle.filter_db.specs.Segment.{fix_in, unfix_in, flush_place_in, flus
 ghost use Rattle.filter_db.specs.Work.{most_compared};
 
 use crate::Place;
-use frame_view::{Mac, Vid};
 use thiserror::Error;
+use wire::ether::{Mac, Vid};
 
 /// The rule of one segment's table.
 #[derive(Clone, Copy, Debug, PartialEq, Eq)]

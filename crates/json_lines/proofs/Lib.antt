@@ -1,6 +1,9 @@
-pub mod Splits
-pub mod Pieces
-pub mod Keeps
 pub mod Escapes
-pub mod Values
 pub mod Fits
+pub mod Keeps
+pub mod Pieces
+pub mod SameLines
+pub mod SameTexts
+pub mod Splits
+pub mod Values
+pub mod Whole

@@ -1,6 +1,8 @@
-pub mod Outcomes
 pub mod Forms
 pub mod Objects
-pub mod Texts
-pub mod Puts
+pub mod Outcomes
 pub mod Pieces
+pub mod Puts
+pub mod ReadBack
+pub mod Telling
+pub mod Texts

@@ -1,7 +1,7 @@
 -- What a room holds when a line was read into it; it serves the contracts of the reader's parts.
 use Rattle.std.specs.Prelude.{◌≡◌, ◌≢◌, ◌<◌, ◌≤◌, ℕ, List, ◌++◌, length, take, drop, slice_index, Option, Some, IfSome, Result, Ok, Err}
 use Rattle.std.specs.Io.KnownBytes.{prepend_known}
-use Rattle.pcap_stream.specs.Counts.{GoesOnBy}
+use Rattle.pcap.specs.Counts.{GoesOnBy}
 use Rattle.line_stream.specs.Lines.{IsLong, behind_line, first_line, longest_line}
 use Rattle.line_stream.specs.declared.fault.LinesFault.{LinesFault}
 use Rattle.line_stream.specs.declared.fault.LinesFault.TheVariants.{Read, TooLong}

@@ -2,7 +2,7 @@
 -- It states no standard.
 use Rattle.std.specs.Prelude.{◌≡◌, ◌≢◌, ◌<◌, ◌≤◌, ℕ, ◌==◌, Bool, true, false, if◌then◌else◌, List, [], ◌∷◌}
 use Rattle.std.specs.Prelude.{length, slice_index, Option, Some, IfSome, Result, Ok, Err}
-use Rattle.pcap_stream.specs.Counts.{GoesOnBy}
+use Rattle.pcap.specs.Counts.{GoesOnBy}
 use Rattle.line_stream.specs.declared.fault.LinesFault.{LinesFault}
 use Rattle.line_stream.specs.declared.fault.LinesFault.TheVariants.{Read, TooLong}
 

@@ -2,14 +2,14 @@
 ghost use Rattle.std.specs.Prelude.{◌≡◌, ◌≢◌, ◌≤◌, ◌<◌, ◌+◌, ◌-◌, ⊤, ℕ, List, Option, length, take, drop, IfOk, OnErr, Some, IfSome};
 ghost use Rattle.std.specs.Prelude.{MatchOption, false, vec_capacity};
 ghost use Rattle.std.specs.Io.KnownBytes.{Consumes, IsAtEnd, prepend_known};
-ghost use Rattle.pcap_stream.specs.Counts.{CountsFaults};
+ghost use Rattle.pcap.specs.Counts.{CountsFaults};
 ghost use Rattle.line_stream.specs.Filled.{IsFilled, IsLent, IsNext};
 ghost use Rattle.line_stream.specs.Lines.{has_line, longest_line};
 
 use crate::fault::LinesFault;
 use crate::find::end_of_line;
 use crate::lines::LONGEST_LINE;
-use pcap_stream::{DeviceFault, Input, read_behind};
+use pcap::stream::{DeviceFault, Input, read_behind};
 
 /// How long a room is made first.
 const FIRST_ROOM: usize = 4_096;

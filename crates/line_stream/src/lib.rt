@@ -1,6 +1,6 @@
 //! Lines of text from an input, in the memory of the longest of them. What a line says isn't looked at.
 //!
-//! Use first: [`Lines`] reads an [`Input`](pcap_stream::Input) and lends one line after another, each with its line feed, as
+//! Use first: [`Lines`] reads an [`Input`](pcap::stream::Input) and lends one line after another, each with its line feed, as
 //! far as lines have at most 131,072 octets. `holds_next` tells whether the next one was read ahead.
 //!
 //! Specs to read: `specs/Lines`.

@@ -5,7 +5,7 @@ ghost use Rattle.line_stream.specs.Lines.{IsFetched, holds_line, longest_line};
 use crate::fault::LinesFault;
 use crate::fill::{Lent, next_line};
 use crate::find::has_line;
-use pcap_stream::Input;
+use pcap::stream::Input;
 use std::alloc::{AllocError, Global};
 use std::marker::Model;
 

@@ -1,1 +1,5 @@
-mod reading_tests;
+mod counts;
+mod lines;
+mod objects;
+mod page;
+mod shown;

@@ -11,6 +11,10 @@
 //! tells. A number is read exactly from its decimal digits without leading zeros, below 2^64:
 //! from the digits of each such number it is that number, and from no other text ([`decimals_read_back`],
 //! [`numbers_are_decimals`]).
+//!
+//! Proved besides:
+//! - The next line of a text is what stands before its first LF, where it has one: `next_line`. The line in which two
+//!   texts first differ is found: `first_difference`.
 #![tactic(auto)]
 
 mod laws;

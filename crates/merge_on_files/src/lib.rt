@@ -2,7 +2,7 @@
 //!
 //! Use first: [`merge`] puts the parts in some folders together and writes the whole run into another; it answers the
 //! [`MergedTexts`], as far as [`TextsAsked`] asks for them. What it does over streams stands in `part_merge`, and of tables,
-//! counts and tunnels in `part_reports` and `tunnel_tables`.
+//! counts and tunnels in `run_counts::parts` and `tunnel_traffic::told`.
 //!
 //! It has no specs of its own.
 //!

@@ -1,5 +1,5 @@
 //! What parts of a run say of themselves, and whether they are so.
-use octet_sum::OctetSum;
+use octet_sums::fletcher::OctetSum;
 use part_record::{
     OutputFacts, PartRecord, PartRecordFault, ToldOutputs, part_all, record_of, same_run,
 };

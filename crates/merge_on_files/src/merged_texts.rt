@@ -1,13 +1,13 @@
 //! What the parts of a run told, as the whole run tells it.
-use part_reports::{ReportFault, Summary, TablesFault, rows_in, tables_of};
 use program_faults::{Failure, OutputFile, PartFailure, read_text};
 use program_files::{open_part_file, path_of};
+use run_counts::parts::{ReportFault, Summary, TablesFault, rows_in, tables_of};
 use segment_set::SegmentSet;
 use std::alloc::AllocError;
 use std::fs;
 use std::io::ErrorKind;
 use std::rt::Files;
-use tunnel_tables::{TrafficFault, TunnelTables, parted};
+use tunnel_traffic::told::{TrafficFault, TunnelTables, parted};
 
 /// How many reads are made of a text that a part left, at most.
 const TEXT_READS: u64 = 4_294_967_296;

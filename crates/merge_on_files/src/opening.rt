@@ -2,10 +2,10 @@
 use crate::looking::{output_at, read_failure};
 use crate::merging::failure_of;
 use line_stream::Lines;
-use octet_sum::OctetSum;
+use octet_sums::fletcher::OctetSum;
 use part_merge::{Capture, MergeFault, Part, PartFault, RecordsFault};
 use part_record::{OutputFacts, ToldOutputs};
-use pcap_stream::{Source, SourceFault};
+use pcap::stream::{Source, SourceFault};
 use program_faults::{Failure, OutputFile};
 use program_files::{PartInput, open_output, path_of};
 use std::alloc::AllocError;

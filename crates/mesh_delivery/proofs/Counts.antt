@@ -3,10 +3,10 @@ use Rattle.std.proofs.Common.{◌≡◌, ℕ, ◌+◌, ◌≤◌, ◌<◌, Bool,
 use Rattle.std.specs.List.{AllByRecursion}
 use Rattle.std.proofs.lemmas.Bool.{eqb-true}
 use Rattle.std.proofs.lemmas.Bool.Decides.{nat_tests}
-use Rattle.underlay.specs.declared.settings.Underlay.{Underlay}
-use Rattle.underlay.specs.Settings.{is_own}
-use Rattle.endpoint_state.specs.Settings.{Settings, SegmentSettings, segment_at}
-use Rattle.endpoint_core.specs.Came.{Came}
+use Rattle.overlay.specs.declared.underlay.settings.Underlay.{Underlay}
+use Rattle.overlay.specs.UnderlaySettings.{is_own}
+use Rattle.endpoint_core.specs.Settings.{Settings, SegmentSettings, segment_at}
+use Rattle.endpoint_core.specs.Arrival.{Arrival}
 use Rattle.endpoint_core.specs.Decision.{Sent}
 use Rattle.mesh_delivery.specs.Mesh.{Origin, Flying, Left, left_of, flying_of}
 use Rattle.mesh_delivery.specs.Offspring.{is_left}
@@ -57,7 +57,7 @@ same_le h = omega arith
 
 -- ---- the counts after a local frame
 
-pub counts-local : (U : ℕ → Underlay) (origin : Origin) (S : Settings) (x : Came) (sent : List Sent) (left : List Left) (flying : List Flying) → origin.vid ≡ x.vid
+pub counts-local : (U : ℕ → Underlay) (origin : Origin) (S : Settings) (x : Arrival) (sent : List Sent) (left : List Left) (flying : List Flying) → origin.vid ≡ x.vid
     → Sends S x sent → ((n : ℕ) (s : SegmentSettings) → segment_at S x.vid ≡ Some s → how_many (λ r. is_own (U n) r.addr) s.flood ≤ 1)
     → ((number n p : ℕ) → how_many (is_left number n p) left + how_many (is_for number n (U n)) flying ≤ 1)
     → AllByRecursion (λ y. y.origin.number < origin.number) left → AllByRecursion (λ y. y.origin.number < origin.number) flying

@@ -5,32 +5,32 @@ use Rattle.std.specs.Option.{option_map, option_map_or, option_and_then}
 use Rattle.std.specs.List.{list_all}
 use Rattle.std.specs.FinMap.{get, insert}
 use Rattle.std.proofs.lemmas.Bool.{eqb-true, ltb-true, and_parts, or_parts, false≢true}
-use Rattle.frame_view.proofs.FirstLemmas.{NothingHolds-from}
-use Rattle.vxlan_head.specs.Vxlan.{IsVni}
-use Rattle.ip_udp_view.specs.declared.addr.Addr.{Addr}
-use Rattle.ip_udp_view.specs.declared.addr.Tunnel.{Tunnel}
-use Rattle.ip_udp_view.specs.declared.addr.Tunnel.TheVariants.{Vxlan, Geneve}
-use Rattle.flood_lists.specs.Flood.{Entries, has_family}
-use Rattle.flood_lists.specs.declared.remote.Remote.{Remote as Target}
+use Rattle.wire.proofs.FirstLemmas.{NothingHolds-from}
+use Rattle.wire.specs.Vxlan.{IsVni}
+use Rattle.wire.specs.declared.ip_udp.addr.Addr.{Addr}
+use Rattle.wire.specs.declared.ip_udp.addr.Tunnel.{Tunnel}
+use Rattle.wire.specs.declared.ip_udp.addr.Tunnel.TheVariants.{Vxlan, Geneve}
+use Rattle.overlay.specs.Flood.{Entries, has_family}
+use Rattle.overlay.specs.declared.flood.remote.Remote.{Remote as Target}
 use Rattle.filter_db.specs.declared.place.Place.{Place}
 use Rattle.filter_db.specs.declared.place.Place.TheVariants.{Local, Remote}
-use Rattle.vlan_ports.specs.Ports.{Members, members_at}
-use Rattle.vlan_ports.proofs.PlacesLemmas.{get-insert_at, get-remove_at}
-use Rattle.underlay.specs.Settings.{own}
-use Rattle.underlay.specs.Tunnels.{of_kind}
-use Rattle.underlay.specs.declared.tunnels.SegmentTunnel.{SegmentTunnel}
-use Rattle.underlay.specs.Overlay.{Overlay, segment_of, are_free, flood_at, tunnel_at, tunnel_of, with_flood, segment_at as under_at}
-use Rattle.underlay.specs.declared.segment.Segment.{Segment}
-use Rattle.overlay_settings.specs.declared.change.NewSegment.{NewSegment}
-use Rattle.overlay_settings.specs.declared.change.Change.{Change}
-use Rattle.overlay_settings.specs.declared.change.Change.TheVariants.{AddSegment}
+use Rattle.overlay.specs.Ports.{Members, members_at}
+use Rattle.overlay.proofs.PlacesLemmas.{get-insert_at, get-remove_at}
+use Rattle.overlay.specs.UnderlaySettings.{own}
+use Rattle.overlay.specs.Tunnels.{of_kind}
+use Rattle.overlay.specs.declared.underlay.tunnels.SegmentTunnel.{SegmentTunnel}
+use Rattle.overlay.specs.Overlay.{Overlay, segment_of, are_free, flood_at, tunnel_at, tunnel_of, with_flood, segment_at as under_at}
+use Rattle.overlay.specs.declared.underlay.segment.Segment.{Segment}
+use Rattle.overlay.specs.declared.settings.change.NewSegment.{NewSegment}
+use Rattle.overlay.specs.declared.settings.change.Change.{Change}
+use Rattle.overlay.specs.declared.settings.change.Change.TheVariants.{AddSegment}
 use Rattle.filter_db.specs.Standing.{segment_count}
-use Rattle.endpoint_state.specs.declared.fault.ChangeFault.{ChangeFault}
-use Rattle.endpoint_state.specs.declared.fault.ChangeFault.TheVariants.{OutOfRange, SegmentThere, PoolFull, SegmentsFull}
-use Rattle.endpoint_state.specs.Settings.{Settings, BridgeSettings, SegmentSettings, tables_asked, joined, segment_at}
-use Rattle.endpoint_state.specs.Effect.{Effect, ToFlood, ToBridge, ToLimit, ToMembers, ToPort, Comes, Goes, ToNothing, effect, new_tunnels, with_segment, without_segment, applied}
-use Rattle.endpoint_state.specs.Change.{is_limit, is_ageing, is_vni, is_vni_of, are_vnis, is_taken, is_too_much, refused, accepted}
-use Rattle.endpoint_state.specs.Sound.{reaches, is_reached_if}
+use Rattle.endpoint_core.specs.declared.state.fault.ChangeFault.{ChangeFault}
+use Rattle.endpoint_core.specs.declared.state.fault.ChangeFault.TheVariants.{OutOfRange, SegmentThere, PoolFull, SegmentsFull}
+use Rattle.endpoint_core.specs.Settings.{Settings, BridgeSettings, SegmentSettings, tables_asked, joined, segment_at}
+use Rattle.endpoint_core.specs.Effect.{Effect, ToFlood, ToBridge, ToLimit, ToMembers, ToPort, Comes, Goes, ToNothing, effect, new_tunnels, with_segment, without_segment, applied}
+use Rattle.endpoint_core.specs.Change.{is_limit, is_ageing, is_vni, is_vni_of, are_vnis, is_taken, is_too_much, refused, accepted}
+use Rattle.endpoint_core.specs.Sound.{reaches, is_reached_if}
 
 -- ---- what never changes
 

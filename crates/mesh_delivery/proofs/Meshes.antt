@@ -3,19 +3,19 @@ use Rattle.std.proofs.Common.{◌≡◌, ℕ, ◌+◌, ◌≤◌, ◌<◌, Bool,
 use Rattle.std.specs.Prelude.{slice_get, ◌==◌}
 use Rattle.std.specs.List.{AllByRecursion, count_by, remove}
 use Rattle.std.proofs.lemmas.Bool.{eqb-true}
-use Rattle.frame_view.specs.declared.reason.Refused.{Refused}
-use Rattle.ip_udp_view.specs.declared.addr.Tunnel.{Tunnel}
-use Rattle.ip_udp_view.specs.declared.addr.Tunnel.TheVariants.{Vxlan, Geneve}
-use Rattle.underlay.specs.declared.settings.Underlay.{Underlay}
-use Rattle.underlay.specs.Settings.{is_own, port_of}
-use Rattle.overlay_settings.specs.Settings.{Settings as Told}
+use Rattle.wire.specs.declared.ether.reason.Refused.{Refused}
+use Rattle.wire.specs.declared.ip_udp.addr.Tunnel.{Tunnel}
+use Rattle.wire.specs.declared.ip_udp.addr.Tunnel.TheVariants.{Vxlan, Geneve}
+use Rattle.overlay.specs.declared.underlay.settings.Underlay.{Underlay}
+use Rattle.overlay.specs.UnderlaySettings.{is_own, port_of}
+use Rattle.overlay.specs.Settings.{Settings as Told}
 use Rattle.encapsulate.specs.Sender.{IsUnderlay}
-use Rattle.endpoint_state.specs.Opened.{settings_told}
-use Rattle.endpoint_state.specs.Settings.{Settings, SegmentSettings, segment_at}
-use Rattle.endpoint_state.specs.Sound.{is_reached}
-use Rattle.endpoint_state.specs.Step.{can_leave}
-use Rattle.endpoint_state.specs.State.{State as Bridges, aged}
-use Rattle.endpoint_core.specs.Came.{Came}
+use Rattle.endpoint_core.specs.Opened.{settings_told}
+use Rattle.endpoint_core.specs.Settings.{Settings, SegmentSettings, segment_at}
+use Rattle.endpoint_core.specs.Sound.{is_reached}
+use Rattle.endpoint_core.specs.StateStep.{can_leave}
+use Rattle.endpoint_core.specs.State.{State as Bridges, aged}
+use Rattle.endpoint_core.specs.Arrival.{Arrival}
 use Rattle.endpoint_core.specs.Arrival.{came_at, came_by, emitted}
 use Rattle.endpoint_core.specs.Decision.{Sent}
 use Rattle.endpoint_core.specs.Event.{Event, frame_at, packet_at, change_at}
@@ -64,7 +64,7 @@ keeps-with told m endpoint e h n = by (n == endpoint) refl
 -- ---- one happening
 
 -- each outcome is what is emitted, at a place where the frame can leave
-emitted-for : (t : ℕ) (B : Bridges) (x : Came) (sent : List Sent) → Knows B → is_reached B.settings.overlay x.vid x.from ≡ true → sent ≡ (decided t B (Ok x)).outcomes → Sends B.settings x sent → AreEmitted B.settings x.vid x.frame sent
+emitted-for : (t : ℕ) (B : Bridges) (x : Arrival) (sent : List Sent) → Knows B → is_reached B.settings.overlay x.vid x.from ≡ true → sent ≡ (decided t B (Ok x)).outcomes → Sends B.settings x sent → AreEmitted B.settings x.vid x.frame sent
 emitted-for t B x sent knows reached_it is out =
     All_both (λ (o : Sent). o.sent ≡ emitted B.settings.ports B.settings.overlay x.vid x.frame o.place) (λ o. can_leave B.settings x.vid o.place ≡ true) sent out.each
     (subst (AllByRecursion (λ (o : Sent). can_leave B.settings x.vid o.place ≡ true)) (sym is) (sends-leaving t B x knows reached_it))
@@ -86,7 +86,7 @@ module _ (told : ℕ → Told) (mesh : IsMesh told) where
   port-same n k Vxlan = mesh.vxlan_port n k
   port-same n k Geneve = mesh.geneve_port n k
 
-  Kept-local : (m : Mesh) → Kept told m → AreFull m → (endpoint t port original : ℕ) (b : List ℕ) (r : Result Came Refused) → came_at (settings_at m endpoint).ports (settings_at m endpoint).overlay port original b ≡ r
+  Kept-local : (m : Mesh) → Kept told m → AreFull m → (endpoint t port original : ℕ) (b : List ℕ) (r : Result Arrival Refused) → came_at (settings_at m endpoint).ports (settings_at m endpoint).overlay port original b ≡ r
       → Kept told (after_local m endpoint port (frame_at t port original b) r)
   Kept-local m kept full endpoint t port original b (Err refused) is = record {
     knows = knows-with m endpoint (frame_at t port original b) kept.knows;
@@ -104,9 +104,9 @@ module _ (told : ℕ → Told) (mesh : IsMesh told) where
       let origin : Origin = record { number = m.frames; endpoint = endpoint; port = port; vid = x.vid; frame = x.frame } in
       let sent = outcomes_of (answer (m.endpoints endpoint) e) in
       let entered = came_at-entered S.ports S.overlay port original b x is in
-      let out : Sends S x sent = subst (λ (r : Result Came Refused). Sends S x (decided t B r).outcomes) (sym is) (sends t B x) in
+      let out : Sends S x sent = subst (λ (r : Result Arrival Refused). Sends S x (decided t B r).outcomes) (sym is) (sends t B x) in
       let each : AreEmitted S x.vid x.frame sent =
-      emitted-for t B x sent (Knows-aged t (m.endpoints endpoint).bridges (kept.knows endpoint)) (ap (is_reached S.overlay x.vid) entered.from) (ap (λ (r : Result Came Refused). (decided t B r).outcomes) is) out in
+      emitted-for t B x sent (Knows-aged t (m.endpoints endpoint).bridges (kept.knows endpoint)) (ap (is_reached S.overlay x.vid) entered.from) (ap (λ (r : Result Arrival Refused). (decided t B r).outcomes) is) out in
       record {
         knows = knows-with m endpoint e kept.knows;
         keeps = keeps-with told m endpoint e kept.keeps;
@@ -118,7 +118,7 @@ module _ (told : ℕ → Told) (mesh : IsMesh told) where
       }
 
   -- what a delivery brings to a port of an endpoint was on its way there
-  new-below : (y : Flying) (endpoint : ℕ) (S : Settings) (x : Came) (sent : List Sent) → Sends S x sent → is_own (U endpoint) y.addr ≡ true → (endpoint ≡ y.origin.endpoint → ⊥)
+  new-below : (y : Flying) (endpoint : ℕ) (S : Settings) (x : Arrival) (sent : List Sent) → Sends S x sent → is_own (U endpoint) y.addr ≡ true → (endpoint ≡ y.origin.endpoint → ⊥)
       → (number n p : ℕ) → how_many (is_left number n p) (left_of y.origin endpoint S x.vid (Some y) sent) ≤ cond (is_for number n (U n) y) 1 0
   new-below y endpoint S x sent sends owned other number n p = by (eqb y.origin.number number) (eqb endpoint n) refl refl
     where
@@ -137,7 +137,7 @@ module _ (told : ℕ → Told) (mesh : IsMesh told) where
           (le_trans (left-count y.origin endpoint S x.vid (Some y) number n p sent) (sends.locals p))
 
   Kept-delivery : (m : Mesh) → Kept told m → AreFull m → (endpoint t place : ℕ) (y : Flying) → slice_get m.flying place ≡ Some y → is_own (settings_at m endpoint).overlay.underlay y.addr ≡ true
-      → (r : Result Came Refused) → came_by (settings_at m endpoint).overlay (length y.octets) y.octets ≡ r
+      → (r : Result Arrival Refused) → came_by (settings_at m endpoint).overlay (length y.octets) y.octets ≡ r
       → Kept told (after_delivery m endpoint (packet_at t (length y.octets) y.octets) y (remove m.flying place) r)
   Kept-delivery m kept full endpoint t place y taken owned (Err refused) is = record {
     knows = knows-with m endpoint (packet_at t (length y.octets) y.octets) kept.knows;
@@ -157,12 +157,12 @@ module _ (told : ℕ → Told) (mesh : IsMesh told) where
       let knows = Knows-aged t (m.endpoints endpoint).bridges (kept.knows endpoint) in
       let here = kept.keeps endpoint in
       let ok : IsSent told y = (taken-all (IsSent told) place m.flying y taken kept.flying).0 in
-      let out : Sends S x sent = subst (λ (r : Result Came Refused). Sends S x (decided t B r).outcomes) (sym is) (sends t B x) in
+      let out : Sends S x sent = subst (λ (r : Result Arrival Refused). Sends S x (decided t B r).outcomes) (sym is) (sends t B x) in
       let far = came-far S.overlay (length y.octets) y.octets x is in
       let reached_it = came-reached S.overlay (length y.octets) y.octets x knows.flood is in
-      let each : AreEmitted S x.vid x.frame sent = emitted-for t B x sent knows reached_it (ap (λ (r : Result Came Refused). (decided t B r).outcomes) is) out in
+      let each : AreEmitted S x.vid x.frame sent = emitted-for t B x sent knows reached_it (ap (λ (r : Result Arrival Refused). (decided t B r).outcomes) is) out in
       let local : AllByRecursion (λ o. IsLocal o.place) sent =
-      subst (λ (r : Result Came Refused). AllByRecursion (λ (o : Sent). IsLocal o.place) (decided t B r).outcomes) (sym is)
+      subst (λ (r : Result Arrival Refused). AllByRecursion (λ (o : Sent). IsLocal o.place) (decided t B r).outcomes) (sym is)
       (sends-locally t B x far.0 far.1 knows far.2 reached_it (λ s there. (full endpoint x.vid s there).one_group)) in
       let none_flies : flying_of y.origin S x.vid sent ≡ [] = flying-local y.origin S x.vid sent local in
       let read : IsReadAs y.sender.overlay S.overlay y.vid y.kind y.origin.frame x.vid x.frame =

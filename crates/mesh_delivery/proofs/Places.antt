@@ -3,16 +3,16 @@ use Rattle.std.proofs.Common.{◌≡◌, ℕ, zero, suc, ◌+◌, ◌≤◌, ◌
 use Rattle.std.specs.List.{filter, range_with_len, AllByRecursion}
 use Rattle.std.proofs.lemmas.Bool.{false≢true, and_parts}
 use Rattle.std.proofs.lemmas.Bool.Decides.{nat_tests}
-use Rattle.frame_view.specs.Address.{is_group}
-use Rattle.frame_view.specs.Frame.{Frame}
-use Rattle.frame_view.specs.declared.reason.Reason.{Reason}
-use Rattle.frame_view.specs.declared.reason.Reason.TheVariants.{SamePlace, Horizon, Unreachable}
+use Rattle.wire.specs.Address.{is_group}
+use Rattle.wire.specs.Frame.{Frame}
+use Rattle.wire.specs.declared.ether.reason.Reason.{Reason}
+use Rattle.wire.specs.declared.ether.reason.Reason.TheVariants.{SamePlace, Horizon, Unreachable}
 use Rattle.filter_db.specs.declared.place.Place.{Place}
 use Rattle.filter_db.specs.declared.place.Place.TheVariants.{Local, Remote}
 use Rattle.filter_db.specs.Place.{same_place}
 use Rattle.filter_db.specs.Table.{Table, stands}
-use Rattle.underlay.specs.declared.settings.Underlay.{Underlay}
-use Rattle.underlay.specs.Settings.{is_own}
+use Rattle.overlay.specs.declared.underlay.settings.Underlay.{Underlay}
+use Rattle.overlay.specs.UnderlaySettings.{is_own}
 use Rattle.tunnel_learning.specs.Bridge.{Config, Target, place_of, in_one_group, is_shut, is_local_outlet, is_remote_outlet, local_places, remote_places, or_no_outlet, everywhere, toward, outlets}
 use Rattle.mesh_delivery.specs.Offspring.{IsLocal, is_remote_of}
 use Rattle.mesh_delivery.proofs.Counting.{how_many, how_many-append, how_many-filter, none_kept, one_at_most}

@@ -5,42 +5,42 @@ use Rattle.std.specs.Option.{option_map, option_map_or, unwrap_or}
 use Rattle.std.specs.List.{list_all}
 use Rattle.std.specs.FinMap.{get, insert, empty, len}
 use Rattle.std.proofs.lemmas.Bool.{eqb-true, and_from, false≢true}
-use Rattle.frame_view.specs.Address.{is_group as is_group_mac}
-use Rattle.frame_view.specs.Frame.{Frame}
-use Rattle.frame_view.specs.declared.reason.Refused.{Refused}
-use Rattle.ip_udp_view.specs.declared.addr.Addr.{Addr}
-use Rattle.ip_udp_view.specs.declared.addr.Tunnel.{Tunnel}
-use Rattle.ip_udp_view.specs.declared.addr.Tunnel.TheVariants.{Vxlan}
-use Rattle.flood_lists.specs.Flood.{Entries, has_family, without}
-use Rattle.flood_lists.specs.declared.fault.FloodFault.{FloodFault}
+use Rattle.wire.specs.Address.{is_group as is_group_mac}
+use Rattle.wire.specs.Frame.{Frame}
+use Rattle.wire.specs.declared.ether.reason.Refused.{Refused}
+use Rattle.wire.specs.declared.ip_udp.addr.Addr.{Addr}
+use Rattle.wire.specs.declared.ip_udp.addr.Tunnel.{Tunnel}
+use Rattle.wire.specs.declared.ip_udp.addr.Tunnel.TheVariants.{Vxlan}
+use Rattle.overlay.specs.Flood.{Entries, has_family, without}
+use Rattle.overlay.specs.declared.flood.fault.FloodFault.{FloodFault}
 use Rattle.filter_db.specs.declared.entry.Entry.{Entry}
 use Rattle.filter_db.specs.declared.place.Place.{Place}
 use Rattle.filter_db.specs.Table.{Table, learn, nanoseconds, is_live, stands}
 use Rattle.filter_db.proofs.TableLemmas.{get-none}
-use Rattle.vlan_ports.proofs.PlacesLemmas.{get-insert_at, get-remove_at}
-use Rattle.underlay.specs.Settings.{own}
-use Rattle.underlay.specs.Overlay.{Overlay, segment_of, flood_at, tunnel_at, with_flood, segment_at as under_at}
-use Rattle.underlay.specs.declared.segment.Segment.{Segment}
-use Rattle.overlay_settings.specs.declared.change.NewSegment.{NewSegment}
-use Rattle.overlay_settings.specs.declared.change.Change.{Change}
-use Rattle.overlay_settings.specs.declared.change.Change.TheVariants.{AddFlood, RemoveFlood, Fix, Unfix, SetAgeing, SetLearning, SetMember, PortUp, PortDown, Flush, AddSegment, RemoveSegment, SetLimit}
-use Rattle.overlay_settings.specs.declared.change.Target.{Target as Goal}
-use Rattle.overlay_settings.specs.declared.change.Target.TheVariants as target
-use Rattle.overlay_settings.specs.Rules.{MeetsRules}
-use Rattle.overlay_settings.specs.Settings.{Settings as Told}
-use Rattle.endpoint_state.specs.Opened.{settings_told}
-use Rattle.endpoint_state.specs.declared.fault.ChangeFault.{ChangeFault}
-use Rattle.endpoint_state.specs.Fault.{of_flood}
-use Rattle.endpoint_state.specs.Effect.{effect, new_tunnels, with_segment, without_segment}
-use Rattle.endpoint_state.proofs.SegmentLemmas.{flood_same, table_same}
-use Rattle.endpoint_state.specs.Settings.{Settings, BridgeSettings, SegmentSettings, segment_at, kind_named}
-use Rattle.endpoint_state.specs.Change.{is_about, in_segment, at_tunnel, target_fault, refused, kind_in, accepted, place_of, entries_changed}
-use Rattle.endpoint_state.specs.Sound.{reaches, is_reached, is_reached_if, AreReached}
-use Rattle.endpoint_state.specs.State.{State as Bridges, live_in, aged, table_changed, accepted_state, after_change}
-use Rattle.endpoint_state.specs.Step.{table_learned, after_frame}
-use Rattle.endpoint_state.proofs.SoundLemmas.{reached-kept, reached-learn, reached-fix, reached-unfix, reached-added, reached-without, kind-there, family-added, family-fixed}
-use Rattle.endpoint_state.proofs.OpenLemmas.{sound-opened}
-use Rattle.endpoint_core.specs.Came.{Came}
+use Rattle.overlay.proofs.PlacesLemmas.{get-insert_at, get-remove_at}
+use Rattle.overlay.specs.UnderlaySettings.{own}
+use Rattle.overlay.specs.Overlay.{Overlay, segment_of, flood_at, tunnel_at, with_flood, segment_at as under_at}
+use Rattle.overlay.specs.declared.underlay.segment.Segment.{Segment}
+use Rattle.overlay.specs.declared.settings.change.NewSegment.{NewSegment}
+use Rattle.overlay.specs.declared.settings.change.Change.{Change}
+use Rattle.overlay.specs.declared.settings.change.Change.TheVariants.{AddFlood, RemoveFlood, Fix, Unfix, SetAgeing, SetLearning, SetMember, PortUp, PortDown, Flush, AddSegment, RemoveSegment, SetLimit}
+use Rattle.overlay.specs.declared.settings.change.Target.{Target as Goal}
+use Rattle.overlay.specs.declared.settings.change.Target.TheVariants as target
+use Rattle.overlay.specs.Rules.{MeetsRules}
+use Rattle.overlay.specs.Settings.{Settings as Told}
+use Rattle.endpoint_core.specs.Opened.{settings_told}
+use Rattle.endpoint_core.specs.declared.state.fault.ChangeFault.{ChangeFault}
+use Rattle.endpoint_core.specs.Fault.{of_flood}
+use Rattle.endpoint_core.specs.Effect.{effect, new_tunnels, with_segment, without_segment}
+use Rattle.endpoint_core.proofs.SegmentLemmas.{flood_same, table_same}
+use Rattle.endpoint_core.specs.Settings.{Settings, BridgeSettings, SegmentSettings, segment_at, kind_named}
+use Rattle.endpoint_core.specs.Change.{is_about, in_segment, at_tunnel, target_fault, refused, kind_in, accepted, place_of, entries_changed}
+use Rattle.endpoint_core.specs.Sound.{reaches, is_reached, is_reached_if, AreReached}
+use Rattle.endpoint_core.specs.State.{State as Bridges, live_in, aged, table_changed, accepted_state, after_change}
+use Rattle.endpoint_core.specs.StateStep.{table_learned, after_frame}
+use Rattle.endpoint_core.proofs.SoundLemmas.{reached-kept, reached-learn, reached-fix, reached-unfix, reached-added, reached-without, kind-there, family-added, family-fixed}
+use Rattle.endpoint_core.proofs.OpenLemmas.{sound-opened}
+use Rattle.endpoint_core.specs.Arrival.{Arrival}
 use Rattle.endpoint_core.specs.Arrival.{came_at, came_by}
 use Rattle.endpoint_core.specs.Event.{Input, FrameAt, Packet, Asks, Event}
 use Rattle.endpoint_core.specs.Step.{State, opened, after_came, bridges_after, after, state_after}
@@ -294,12 +294,12 @@ Stays-change t c B = by (refused B.settings c) refl
 
 -- ---- an event
 
-pub came-reached : (O : Overlay) (original : ℕ) (b : List ℕ) (x : Came) → ((vid : ℕ) → list_all (reached O vid) (flood_at O vid) ≡ true) → came_by O original b ≡ Ok x → is_reached O x.vid x.from ≡ true
+pub came-reached : (O : Overlay) (original : ℕ) (b : List ℕ) (x : Arrival) → ((vid : ℕ) → list_all (reached O vid) (flood_at O vid) ≡ true) → came_by O original b ≡ Ok x → is_reached O x.vid x.from ≡ true
 came-reached O original b x all h =
     let y = came_by-arrived O original b x h in
     ap (λ (from : Place). is_reached O x.vid from) y.2.from ∙ ap (λ (vid : ℕ). reaches O vid y.0.from.0 y.0.from.1) y.2.vid ∙ (arrived-reached O b y.0 all y.1).0
 
-Knows-came : (t : ℕ) (B : Bridges) (r : Result Came Refused) → ((x : Came) → r ≡ Ok x → is_reached B.settings.overlay x.vid x.from ≡ true) → Knows B → Knows (after_came t B r)
+Knows-came : (t : ℕ) (B : Bridges) (r : Result Arrival Refused) → ((x : Arrival) → r ≡ Ok x → is_reached B.settings.overlay x.vid x.from ≡ true) → Knows B → Knows (after_came t B r)
 Knows-came t B (Err refused) own k = k
 Knows-came t B (Ok x) own k = Knows-frame t x.vid x.from x.frame B (own x refl) k
 
@@ -310,7 +310,7 @@ Knows-input t B (FrameAt port original b) k =
 Knows-input t B (Packet original b) k = Knows-came t B (came_by B.settings.overlay original b) (λ x h. came-reached B.settings.overlay original b x k.flood h) k
 Knows-input t B (Asks c) k = Knows-change t c B k
 
-Stays-came : (t : ℕ) (B : Bridges) (r : Result Came Refused) → Stays (after_came t B r).settings B.settings
+Stays-came : (t : ℕ) (B : Bridges) (r : Result Arrival Refused) → Stays (after_came t B r).settings B.settings
 Stays-came t B (Err refused) = Stays-itself B.settings
 Stays-came t B (Ok x) = Stays-itself B.settings
 

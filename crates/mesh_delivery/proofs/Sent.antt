@@ -5,24 +5,24 @@ use Rattle.std.specs.Option.{option_map_or}
 use Rattle.std.specs.List.{AllByRecursion, remove}
 use Rattle.std.proofs.lemmas.Bool.{false≢true}
 use Rattle.std.proofs.lemmas.Bool.Decides.{nat_tests}
-use Rattle.frame_view.specs.Frame.{Frame}
-use Rattle.frame_view.proofs.FirstLemmas.{same_Ok}
-use Rattle.frame_view.specs.declared.reason.Reason.{Reason}
-use Rattle.ip_udp_view.specs.declared.addr.Addr.{Addr}
-use Rattle.ip_udp_view.specs.declared.addr.Tunnel.{Tunnel}
+use Rattle.wire.specs.Frame.{Frame}
+use Rattle.wire.proofs.FirstLemmas.{same_Ok}
+use Rattle.wire.specs.declared.ether.reason.Reason.{Reason}
+use Rattle.wire.specs.declared.ip_udp.addr.Addr.{Addr}
+use Rattle.wire.specs.declared.ip_udp.addr.Tunnel.{Tunnel}
 use Rattle.filter_db.specs.declared.place.Place.{Place}
 use Rattle.filter_db.specs.declared.place.Place.TheVariants.{Local, Remote}
-use Rattle.vlan_ports.specs.declared.member.Egress.{Egress}
-use Rattle.vlan_ports.specs.Ports.{Ports, is_port, egress_at}
-use Rattle.underlay.specs.declared.settings.Underlay.{Underlay}
-use Rattle.underlay.specs.Overlay.{Overlay}
-use Rattle.underlay.specs.Settings.{is_own}
+use Rattle.overlay.specs.declared.ports.member.Egress.{Egress}
+use Rattle.overlay.specs.Ports.{Ports, is_port, egress_at}
+use Rattle.overlay.specs.declared.underlay.settings.Underlay.{Underlay}
+use Rattle.overlay.specs.Overlay.{Overlay}
+use Rattle.overlay.specs.UnderlaySettings.{is_own}
 use Rattle.encapsulate.specs.Emission.{local_text}
 use Rattle.encapsulate.specs.Remote.{sending}
-use Rattle.overlay_settings.specs.Settings.{Settings as Told}
-use Rattle.endpoint_state.specs.Opened.{settings_told}
-use Rattle.endpoint_state.specs.Settings.{Settings}
-use Rattle.endpoint_state.specs.Step.{can_leave}
+use Rattle.overlay.specs.Settings.{Settings as Told}
+use Rattle.endpoint_core.specs.Opened.{settings_told}
+use Rattle.endpoint_core.specs.Settings.{Settings}
+use Rattle.endpoint_core.specs.StateStep.{can_leave}
 use Rattle.endpoint_core.specs.Arrival.{emitted, local_octets}
 use Rattle.endpoint_core.specs.Decision.{Sent}
 use Rattle.mesh_delivery.specs.Mesh.{Origin, Flying, Left, left_one, left_of, flying_one, flying_of}

@@ -4,33 +4,33 @@ use Rattle.std.specs.Prelude.{is_some, ◌==◌, IsTrue, IfOk}
 use Rattle.std.specs.Option.{option_map_or}
 use Rattle.std.specs.List.{list_all, count_by, AllByRecursion}
 use Rattle.std.proofs.lemmas.Bool.{false≢true, eqb-true, eq-eqb, and_parts}
-use Rattle.frame_view.specs.Frame.{Frame}
-use Rattle.frame_view.specs.declared.reason.Reason.{Reason}
-use Rattle.frame_view.specs.declared.reason.Refused.{Refused}
-use Rattle.ip_udp_view.specs.Addr.{same_kind}
-use Rattle.ip_udp_view.specs.declared.addr.Addr.{Addr}
-use Rattle.ip_udp_view.specs.declared.addr.Tunnel.{Tunnel}
-use Rattle.ip_udp_view.specs.declared.addr.Tunnel.TheVariants.{Vxlan, Geneve}
-use Rattle.flood_lists.specs.Flood.{Entries, has_family}
+use Rattle.wire.specs.Frame.{Frame}
+use Rattle.wire.specs.declared.ether.reason.Reason.{Reason}
+use Rattle.wire.specs.declared.ether.reason.Refused.{Refused}
+use Rattle.wire.specs.Addr.{same_kind}
+use Rattle.wire.specs.declared.ip_udp.addr.Addr.{Addr}
+use Rattle.wire.specs.declared.ip_udp.addr.Tunnel.{Tunnel}
+use Rattle.wire.specs.declared.ip_udp.addr.Tunnel.TheVariants.{Vxlan, Geneve}
+use Rattle.overlay.specs.Flood.{Entries, has_family}
 use Rattle.filter_db.specs.declared.place.Place.{Place}
 use Rattle.filter_db.specs.declared.place.Place.TheVariants.{Local, Remote}
 use Rattle.filter_db.specs.Table.{Table, stands}
-use Rattle.vlan_ports.specs.Ports.{Ports}
-use Rattle.underlay.specs.declared.settings.Underlay.{Underlay}
-use Rattle.underlay.specs.declared.tunnels.SegmentTunnel.{SegmentTunnel}
-use Rattle.underlay.specs.Overlay.{Overlay, flood_at, tunnel_at}
-use Rattle.underlay.specs.Settings.{own, is_own}
-use Rattle.underlay.specs.Tunnels.{of_kind}
+use Rattle.overlay.specs.Ports.{Ports}
+use Rattle.overlay.specs.declared.underlay.settings.Underlay.{Underlay}
+use Rattle.overlay.specs.declared.underlay.tunnels.SegmentTunnel.{SegmentTunnel}
+use Rattle.overlay.specs.Overlay.{Overlay, flood_at, tunnel_at}
+use Rattle.overlay.specs.UnderlaySettings.{own, is_own}
+use Rattle.overlay.specs.Tunnels.{of_kind}
 use Rattle.tunnel_learning.specs.Bridge.{group_of, in_one_group, outlets, place_of}
-use Rattle.overlay_settings.specs.Rules.{MeetsRules}
-use Rattle.overlay_settings.specs.Settings.{Settings as Told}
-use Rattle.endpoint_state.specs.Opened.{settings_told}
-use Rattle.endpoint_state.specs.Settings.{Settings, SegmentSettings, segment_at}
-use Rattle.endpoint_state.specs.Sound.{reaches, is_reached, is_reached_if, AreReached}
-use Rattle.endpoint_state.specs.State.{State as Bridges, aged}
-use Rattle.endpoint_state.specs.Step.{group_in, config_of, can_leave, after_frame, verdict_in, verdict}
-use Rattle.endpoint_state.proofs.StepLemmas.{outlets-leave}
-use Rattle.endpoint_core.specs.Came.{Came}
+use Rattle.overlay.specs.Rules.{MeetsRules}
+use Rattle.overlay.specs.Settings.{Settings as Told}
+use Rattle.endpoint_core.specs.Opened.{settings_told}
+use Rattle.endpoint_core.specs.Settings.{Settings, SegmentSettings, segment_at}
+use Rattle.endpoint_core.specs.Sound.{reaches, is_reached, is_reached_if, AreReached}
+use Rattle.endpoint_core.specs.State.{State as Bridges, aged}
+use Rattle.endpoint_core.specs.StateStep.{group_in, config_of, can_leave, after_frame, verdict_in, verdict}
+use Rattle.endpoint_core.proofs.StepLemmas.{outlets-leave}
+use Rattle.endpoint_core.specs.Arrival.{Arrival}
 use Rattle.endpoint_core.specs.Arrival.{came_at, came_by, emitted}
 use Rattle.endpoint_core.specs.Decision.{Sent}
 use Rattle.endpoint_core.specs.Event.{Event, frame_at, packet_at}
@@ -124,7 +124,7 @@ verdict-leave S vid (Some s) from f m is flood known =
 
 -- ---- what is sent
 
-outcomes-verdict : (S : Settings) (x : Came) (r : Result (List Place) Reason) → (by_verdict S x r).outcomes ≡ map (sent_at S x.vid x.frame) (places_of r)
+outcomes-verdict : (S : Settings) (x : Arrival) (r : Result (List Place) Reason) → (by_verdict S x r).outcomes ≡ map (sent_at S x.vid x.frame) (places_of r)
 outcomes-verdict S x (Ok places) = refl
 outcomes-verdict S x (Err reason) = refl
 
@@ -145,23 +145,23 @@ map-leave S vid f [] h = tt
 map-leave S vid f (p ∷ places) h = let both = and_parts (can_leave S vid p) (list_all (can_leave S vid) places) h in (both.0, map-leave S vid f places both.1)
 
 -- of a frame that came to a segment of an endpoint with settings S: each outcome is what is emitted, at most one for each port
-pub record Sends (S : Settings) (x : Came) (sent : List Sent) : Type 0 where
+pub record Sends (S : Settings) (x : Arrival) (sent : List Sent) : Type 0 where
   pub each : AllByRecursion (λ o. o.sent ≡ emitted S.ports S.overlay x.vid x.frame o.place) sent
   pub locals : (p : ℕ) → how_many (λ o. is_local_at p o.place) sent ≤ 1
   pub remotes : (U : Underlay) → ((s : SegmentSettings) → segment_at S x.vid ≡ Some s → how_many (λ r. is_own U r.addr) s.flood ≤ 1) → how_many (λ o. is_remote_of U o.place) sent ≤ 1
   pub back : (p : ℕ) → x.from ≡ Local p → how_many (λ o. is_local_at p o.place) sent ≡ 0
 
 -- what came to a segment by an event
-abbrev table_for : ℕ → Bridges → Came → Table
+abbrev table_for : ℕ → Bridges → Arrival → Table
 table_for t B x = (after_frame t x.vid x.from x.frame B).tables x.vid
 
-abbrev places_for : ℕ → Bridges → Came → List Place
+abbrev places_for : ℕ → Bridges → Arrival → List Place
 places_for t B x = places_of (verdict_in B.settings.ports (segment_at B.settings x.vid) x.from x.frame (table_for t B x))
 
-outcomes-for : (t : ℕ) (B : Bridges) (x : Came) → (decided t B (Ok x)).outcomes ≡ map (sent_at B.settings x.vid x.frame) (places_for t B x)
+outcomes-for : (t : ℕ) (B : Bridges) (x : Arrival) → (decided t B (Ok x)).outcomes ≡ map (sent_at B.settings x.vid x.frame) (places_for t B x)
 outcomes-for t B x = outcomes-verdict B.settings x (verdict t x.vid x.from x.frame B)
 
-pub sends : (t : ℕ) (B : Bridges) (x : Came) → Sends B.settings x (decided t B (Ok x)).outcomes
+pub sends : (t : ℕ) (B : Bridges) (x : Arrival) → Sends B.settings x (decided t B (Ok x)).outcomes
 sends t B x = subst (Sends B.settings x) (sym (outcomes-for t B x)) (record {
   each = map-each B.settings x.vid x.frame places;
   locals = λ p. subst (λ (n : ℕ). n ≤ 1) (sym (counted (is_local_at p))) (verdict-local B.settings.ports o x.from x.frame m p);
@@ -182,14 +182,14 @@ sends t B x = subst (Sends B.settings x) (sym (outcomes-for t B x)) (record {
     counted test = map-places test B.settings x.vid x.frame places
 
 -- by places where it can leave
-pub sends-leaving : (t : ℕ) (B : Bridges) (x : Came) → Knows B → is_reached B.settings.overlay x.vid x.from ≡ true → AllByRecursion (λ o. can_leave B.settings x.vid o.place ≡ true) (decided t B (Ok x)).outcomes
+pub sends-leaving : (t : ℕ) (B : Bridges) (x : Arrival) → Knows B → is_reached B.settings.overlay x.vid x.from ≡ true → AllByRecursion (λ o. can_leave B.settings x.vid o.place ≡ true) (decided t B (Ok x)).outcomes
 sends-leaving t B x knows reached_it =
     subst (AllByRecursion (λ (o : Sent). can_leave B.settings x.vid o.place ≡ true)) (sym (outcomes-for t B x))
     (map-leave B.settings x.vid x.frame (places_for t B x)
     (verdict-leave B.settings x.vid (segment_at B.settings x.vid) x.from x.frame (table_for t B x) refl (knows.flood x.vid) ((Knows-frame t x.vid x.from x.frame B reached_it knows).tables x.vid)))
 
 -- what came by a tunnel goes to local places alone
-pub sends-locally : (t : ℕ) (B : Bridges) (x : Came) (k : Tunnel) (a : Addr) → Knows B → x.from ≡ Remote k a → is_reached B.settings.overlay x.vid x.from ≡ true → ((s : SegmentSettings) → segment_at B.settings x.vid ≡ Some s → AreOneGroup s.tunnels)
+pub sends-locally : (t : ℕ) (B : Bridges) (x : Arrival) (k : Tunnel) (a : Addr) → Knows B → x.from ≡ Remote k a → is_reached B.settings.overlay x.vid x.from ≡ true → ((s : SegmentSettings) → segment_at B.settings x.vid ≡ Some s → AreOneGroup s.tunnels)
     → AllByRecursion (λ o. IsLocal o.place) (decided t B (Ok x)).outcomes
 sends-locally t B x k a knows from reached_it groups =
     subst (AllByRecursion (λ (o : Sent). IsLocal o.place)) (sym (outcomes-for t B x)) (map-local B.settings x.vid x.frame (places_for t B x)
@@ -200,7 +200,7 @@ sends-locally t B x k a knows from reached_it groups =
 
 -- ---- the two facts of one step
 
-pub came-far : (O : Overlay) (original : ℕ) (b : List ℕ) (x : Came) → came_by O original b ≡ Ok x → (k : Tunnel) × (a : Addr) × (x.from ≡ Remote k a)
+pub came-far : (O : Overlay) (original : ℕ) (b : List ℕ) (x : Arrival) → came_by O original b ≡ Ok x → (k : Tunnel) × (a : Addr) × (x.from ≡ Remote k a)
 came-far O original b x h = let y = came_by-arrived O original b x h in (y.0.from.0, y.0.from.1, y.2.from)
 
 pub packet-locally : (s : State) (t original : ℕ) (b : List ℕ) → Knows s.bridges → ((vid : ℕ) (segment : SegmentSettings) → segment_at s.bridges.settings vid ≡ Some segment → AreOneGroup segment.tunnels)
@@ -210,7 +210,7 @@ packet-locally s t original b knows groups = by (came_by B.settings.overlay orig
     B : Bridges
     B = aged t s.bridges
 
-    by : (r : Result Came Refused) → came_by B.settings.overlay original b ≡ r → AllByRecursion (λ o. IsLocal o.place) (decided t B r).outcomes
+    by : (r : Result Arrival Refused) → came_by B.settings.overlay original b ≡ r → AllByRecursion (λ o. IsLocal o.place) (decided t B r).outcomes
     by (Err refused) is = tt
     by (Ok x) is =
         let far = came-far B.settings.overlay original b x is in
@@ -231,6 +231,6 @@ once-to-each s t port original b U once =
     B : Bridges
     B = aged t s.bridges
 
-    by : (r : Result Came Refused) → how_many (λ o. is_remote_of U o.place) (decided t B r).outcomes ≤ 1
+    by : (r : Result Arrival Refused) → how_many (λ o. is_remote_of U o.place) (decided t B r).outcomes ≤ 1
     by (Err refused) = omega arith
     by (Ok x) = (sends t B x).remotes U (λ segment is. subst (λ (n : ℕ). n ≤ 1) (sym (how_many-count (λ r. is_own U r.addr) segment.flood)) (once x.vid segment is))

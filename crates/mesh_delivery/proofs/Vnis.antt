@@ -3,20 +3,20 @@ use Rattle.std.proofs.Common.{◌≡◌, ℕ, ◌≤◌, Bool, true, false, cond
 use Rattle.std.specs.Prelude.{◌==◌}
 use Rattle.std.specs.Ordering.{nat_cmp}
 use Rattle.std.specs.FinMap.{get, from_entries, get-empty}
-use Rattle.ip_udp_view.specs.declared.addr.Tunnel.{Tunnel}
-use Rattle.ip_udp_view.specs.Addr.{same_kind}
-use Rattle.vxlan_head.specs.Vxlan.{IsVni}
-use Rattle.vlan_ports.proofs.PlacesLemmas.{get-insert_at}
-use Rattle.flood_lists.specs.declared.own.Own.{Own}
-use Rattle.underlay.specs.declared.segment.Segment.{Segment}
-use Rattle.underlay.specs.declared.tunnels.SegmentTunnel.{SegmentTunnel}
-use Rattle.underlay.specs.Overlay.{Segments, segment_of, tunnel_at, tunnel_of}
-use Rattle.underlay.specs.Settings.{own}
-use Rattle.underlay.specs.Tunnels.{of_kind}
-use Rattle.overlay_settings.specs.declared.segment.SegmentRule.{SegmentRule}
-use Rattle.overlay_settings.specs.Rules.{EachBehind, IsTunnel, IsSegment, MeetsRules}
-use Rattle.overlay_settings.specs.Settings.{Settings as Told, tunnel_rule}
-use Rattle.endpoint_state.specs.Opened.{settings_told}
+use Rattle.wire.specs.declared.ip_udp.addr.Tunnel.{Tunnel}
+use Rattle.wire.specs.Addr.{same_kind}
+use Rattle.wire.specs.Vxlan.{IsVni}
+use Rattle.overlay.proofs.PlacesLemmas.{get-insert_at}
+use Rattle.overlay.specs.declared.flood.own.Own.{Own}
+use Rattle.overlay.specs.declared.underlay.segment.Segment.{Segment}
+use Rattle.overlay.specs.declared.underlay.tunnels.SegmentTunnel.{SegmentTunnel}
+use Rattle.overlay.specs.Overlay.{Segments, segment_of, tunnel_at, tunnel_of}
+use Rattle.overlay.specs.UnderlaySettings.{own}
+use Rattle.overlay.specs.Tunnels.{of_kind}
+use Rattle.overlay.specs.declared.settings.segment.SegmentRule.{SegmentRule}
+use Rattle.overlay.specs.Rules.{EachBehind, IsTunnel, IsSegment, MeetsRules}
+use Rattle.overlay.specs.Settings.{Settings as Told, tunnel_rule}
+use Rattle.endpoint_core.specs.Opened.{settings_told}
 
 found-vni : (earlier tunnels : List SegmentTunnel) (kind : Tunnel) (t : SegmentTunnel) → EachBehind IsTunnel earlier tunnels → of_kind kind tunnels ≡ Some t → IsVni t.vni
 found-vni earlier [] kind t each h = absurd cc

@@ -5,32 +5,32 @@ use Rattle.std.specs.Option.{option_map, option_map_or, option_and_then}
 use Rattle.std.specs.Cmp.{nat_cmp_total}
 use Rattle.std.specs.FinMap.{entries, entries_sorted, get-entries}
 use Rattle.std.proofs.lemmas.Bool.{false≢true, eqb-true}
-use Rattle.header_octets.proofs.OctetsLemmas.{is_same-true, is_same-refl}
-use Rattle.frame_view.specs.First.{first}
-use Rattle.frame_view.specs.Frame.{Frame, IsFrame, plain}
-use Rattle.frame_view.specs.declared.reason.Reason.{Reason}
-use Rattle.frame_view.specs.declared.reason.Refused.{Refused}
-use Rattle.frame_view.proofs.FirstLemmas.{NothingHolds-from, same_Ok}
-use Rattle.frame_view.proofs.RefusalLemmas.{refused-ok}
-use Rattle.ip_udp_view.specs.declared.addr.Addr.{Addr}
-use Rattle.ip_udp_view.specs.declared.addr.Addr.TheVariants.{V4, V6}
-use Rattle.ip_udp_view.specs.declared.addr.Tunnel.{Tunnel}
-use Rattle.ip_udp_view.specs.declared.addr.Tunnel.TheVariants.{Vxlan, Geneve}
-use Rattle.ip_udp_view.specs.Addr.{IsAddr, is_group, is_usable}
-use Rattle.ip_udp_view.specs.Udp.{data_of}
-use Rattle.ip_udp_view.specs.Datagram.{Datagram}
-use Rattle.ip_udp_view.proofs.DatagramLemmas.{only-datagram}
-use Rattle.vxlan_head.specs.Vxlan.{IsVni}
-use Rattle.vxlan_head.proofs.Reading.{vxlan-sent}
-use Rattle.geneve_head.proofs.PacketLemmas.{geneve-sent}
+use Rattle.wire.proofs.OctetsLemmas.{is_same-true, is_same-refl}
+use Rattle.wire.specs.First.{first}
+use Rattle.wire.specs.Frame.{Frame, IsFrame, plain}
+use Rattle.wire.specs.declared.ether.reason.Reason.{Reason}
+use Rattle.wire.specs.declared.ether.reason.Refused.{Refused}
+use Rattle.wire.proofs.FirstLemmas.{NothingHolds-from, same_Ok}
+use Rattle.wire.proofs.RefusalLemmas.{refused-ok}
+use Rattle.wire.specs.declared.ip_udp.addr.Addr.{Addr}
+use Rattle.wire.specs.declared.ip_udp.addr.Addr.TheVariants.{V4, V6}
+use Rattle.wire.specs.declared.ip_udp.addr.Tunnel.{Tunnel}
+use Rattle.wire.specs.declared.ip_udp.addr.Tunnel.TheVariants.{Vxlan, Geneve}
+use Rattle.wire.specs.Addr.{IsAddr, is_group, is_usable}
+use Rattle.wire.specs.Udp.{data_of}
+use Rattle.wire.specs.Datagram.{Datagram}
+use Rattle.wire.proofs.DatagramLemmas.{only-datagram}
+use Rattle.wire.specs.Vxlan.{IsVni}
+use Rattle.wire.proofs.VxlanReading.{vxlan-sent}
+use Rattle.wire.proofs.PacketLemmas.{geneve-sent}
 use Rattle.filter_db.specs.declared.place.Place.TheVariants.{Remote}
-use Rattle.flood_lists.specs.Flood.{is_there, own_of}
-use Rattle.underlay.specs.declared.segment.Segment.{Segment}
-use Rattle.underlay.specs.declared.settings.Underlay.{Underlay}
-use Rattle.underlay.specs.declared.tunnels.SegmentTunnel.{SegmentTunnel}
-use Rattle.underlay.specs.Overlay.{Overlay, has_tunnel, segment_at, segment_by, tunnel_at, tunnel_of}
-use Rattle.underlay.specs.Settings.{own, is_own, kind_at, port_of}
-use Rattle.underlay.proofs.CountLemmas.{found_where}
+use Rattle.overlay.specs.Flood.{is_there, own_of}
+use Rattle.overlay.specs.declared.underlay.segment.Segment.{Segment}
+use Rattle.overlay.specs.declared.underlay.settings.Underlay.{Underlay}
+use Rattle.overlay.specs.declared.underlay.tunnels.SegmentTunnel.{SegmentTunnel}
+use Rattle.overlay.specs.Overlay.{Overlay, has_tunnel, segment_at, segment_by, tunnel_at, tunnel_of}
+use Rattle.overlay.specs.UnderlaySettings.{own, is_own, kind_at, port_of}
+use Rattle.overlay.proofs.CountLemmas.{found_where}
 use Rattle.decapsulate.specs.declared.arrived.Arrived.{Arrived}
 use Rattle.decapsulate.specs.Arrival.{packet_in, kind_to, inner_of, is_bad_source, outer_reasons, inner_reasons, arrival_in, arrival_by, arrival, arrival_of, capture_reasons, IsTunnelled}
 use Rattle.decapsulate.proofs.ArrivalLemmas.{Reads, Reads-from, kind_at-port, frame_of-plain}
@@ -40,7 +40,7 @@ use Rattle.encapsulate.specs.Remote.{admits, packet_from, sending, remote_text}
 use Rattle.encapsulate.specs.Sender.{IsOwnAddr, IsUnderlay}
 use Rattle.encapsulate.proofs.Sending.{source_port-below, Datagram4, Datagram6, fits4, fits6}
 use Rattle.encapsulate.proofs.SenderLemmas.{packet-sent}
-use Rattle.endpoint_core.specs.Came.{Came}
+use Rattle.endpoint_core.specs.Arrival.{Arrival}
 use Rattle.endpoint_core.specs.Arrival.{came_by, tunnelled as of_tunnel}
 
 -- ---- small steps
@@ -225,18 +225,18 @@ module _ (S R : Overlay) (vid : ℕ) (kind : Tunnel) (f : Frame) (x : Arrived) (
 
 -- ---- as an endpoint takes it
 
-pub record IsArrived (x : Came) (y : Arrived) : Type 0 where
+pub record IsArrived (x : Arrival) (y : Arrived) : Type 0 where
   pub vid : x.vid ≡ y.vid
   pub from : x.from ≡ Remote y.from.0 y.from.1
   pub frame : x.frame ≡ y.frame
 
-of-arrived : (r : Result Arrived Refused) (x : Came) → of_tunnel r ≡ Ok x → (y : Arrived) × (r ≡ Ok y) × IsArrived x y
+of-arrived : (r : Result Arrived Refused) (x : Arrival) → of_tunnel r ≡ Ok x → (y : Arrived) × (r ≡ Ok y) × IsArrived x y
 of-arrived (Err refused) x h = absurd cc
 of-arrived (Ok y) x h =
     let same = same_Ok _ x h in
-    (y, refl, record { vid = sym (ap (λ (z : Came). z.vid) same); from = sym (ap (λ (z : Came). z.from) same); frame = sym (ap (λ (z : Came). z.frame) same) })
+    (y, refl, record { vid = sym (ap (λ (z : Arrival). z.vid) same); from = sym (ap (λ (z : Arrival). z.from) same); frame = sym (ap (λ (z : Arrival). z.frame) same) })
 
-pub came_by-arrived : (R : Overlay) (original : ℕ) (b : List ℕ) (x : Came) → came_by R original b ≡ Ok x → (y : Arrived) × (arrival R b ≡ Ok y) × IsArrived x y
+pub came_by-arrived : (R : Overlay) (original : ℕ) (b : List ℕ) (x : Arrival) → came_by R original b ≡ Ok x → (y : Arrived) × (arrival R b ≡ Ok y) × IsArrived x y
 unfolding came_by
 came_by-arrived R original b x h =
     let a = of-arrived (arrival_of R original b) x h in
@@ -250,7 +250,7 @@ pub sent-text : (S : Overlay) (vid : ℕ) (kind : Tunnel) (a : Addr) (f : Frame)
 sent-text S vid kind a f b h = sent-by (admits S vid a f) (remote_text S vid kind a f) b h
 
 -- what S sends in a segment to an address that R owns, R reads as it was sent, or not at all
-pub delivered-as : (S R : Overlay) (vid : ℕ) (kind : Tunnel) (a : Addr) (f : Frame) (b : List ℕ) (original : ℕ) (x : Came) → IsUnderlay S.underlay → IsUnderlay R.underlay → IsWhole f → port_of S.underlay kind ≡ port_of R.underlay kind
+pub delivered-as : (S R : Overlay) (vid : ℕ) (kind : Tunnel) (a : Addr) (f : Frame) (b : List ℕ) (original : ℕ) (x : Arrival) → IsUnderlay S.underlay → IsUnderlay R.underlay → IsWhole f → port_of S.underlay kind ≡ port_of R.underlay kind
     → ((t : SegmentTunnel) → tunnel_at S vid kind ≡ Some t → IsVni t.vni) → is_own R.underlay a ≡ true → sending S vid kind a f ≡ Ok b → came_by R original b ≡ Ok x → IsReadAs S R vid kind f x.vid x.frame
 delivered-as S R vid kind a f b original x s r h ports vnis owned sent came =
     let parts = sent-text S vid kind a f b sent in

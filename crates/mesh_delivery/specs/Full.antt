@@ -1,13 +1,13 @@
 -- A full mesh: each endpoint sends straight to each other, and hands no packet on (the split horizon of RFC 4762, 4.4).
 use Rattle.std.specs.Prelude.{◌≡◌, ℕ, ◌≤◌, ◌==◌, IsTrue, not, List, [], ◌∷◌, Some}
 use Rattle.std.specs.List.{list_all, count_by}
-use Rattle.ip_udp_view.specs.Addr.{is_group}
-use Rattle.underlay.specs.declared.settings.Underlay.{Underlay}
-use Rattle.underlay.specs.declared.tunnels.SegmentTunnel.{SegmentTunnel}
-use Rattle.underlay.specs.Settings.{is_own}
-use Rattle.overlay_settings.specs.Rules.{MeetsRules}
-use Rattle.overlay_settings.specs.Settings.{Settings as Told}
-use Rattle.endpoint_state.specs.Settings.{SegmentSettings, segment_at}
+use Rattle.wire.specs.Addr.{is_group}
+use Rattle.overlay.specs.declared.underlay.settings.Underlay.{Underlay}
+use Rattle.overlay.specs.declared.underlay.tunnels.SegmentTunnel.{SegmentTunnel}
+use Rattle.overlay.specs.UnderlaySettings.{is_own}
+use Rattle.overlay.specs.Rules.{MeetsRules}
+use Rattle.overlay.specs.Settings.{Settings as Told}
+use Rattle.endpoint_core.specs.Settings.{SegmentSettings, segment_at}
 use Rattle.mesh_delivery.specs.Mesh.{Mesh, Happening, settings_at, mesh_after}
 
 -- endpoints with settings that keep to the rules, and with the same two tunnel ports. Two may own one address: a packet

@@ -5,19 +5,19 @@
 --     mesh_after, mesh_run      the mesh after one of them, and after many
 use Rattle.std.specs.Prelude.{ℕ, ◌+◌, ◌==◌, if◌then◌else◌, List, [], ◌∷◌, ◌++◌, length, slice_get, Option, Some, None, Result, Ok, Err}
 use Rattle.std.specs.List.{flat_map, remove}
-use Rattle.frame_view.specs.Frame.{Frame}
-use Rattle.frame_view.specs.declared.reason.Reason.{Reason}
-use Rattle.frame_view.specs.declared.reason.Refused.{Refused}
-use Rattle.ip_udp_view.specs.declared.addr.Addr.{Addr}
-use Rattle.ip_udp_view.specs.declared.addr.Tunnel.{Tunnel}
+use Rattle.wire.specs.Frame.{Frame}
+use Rattle.wire.specs.declared.ether.reason.Reason.{Reason}
+use Rattle.wire.specs.declared.ether.reason.Refused.{Refused}
+use Rattle.wire.specs.declared.ip_udp.addr.Addr.{Addr}
+use Rattle.wire.specs.declared.ip_udp.addr.Tunnel.{Tunnel}
 use Rattle.filter_db.specs.declared.place.Place.{Place}
 use Rattle.filter_db.specs.declared.place.Place.TheVariants.{Local, Remote}
-use Rattle.underlay.specs.Settings.{is_own}
-use Rattle.overlay_settings.specs.Settings.{Settings as Told}
-use Rattle.overlay_settings.specs.declared.change.Change.{Change}
-use Rattle.endpoint_state.specs.Opened.{settings_told}
-use Rattle.endpoint_state.specs.Settings.{Settings}
-use Rattle.endpoint_core.specs.Came.{Came}
+use Rattle.overlay.specs.UnderlaySettings.{is_own}
+use Rattle.overlay.specs.Settings.{Settings as Told}
+use Rattle.overlay.specs.declared.settings.change.Change.{Change}
+use Rattle.endpoint_core.specs.Opened.{settings_told}
+use Rattle.endpoint_core.specs.Settings.{Settings}
+use Rattle.endpoint_core.specs.Arrival.{Arrival}
 use Rattle.endpoint_core.specs.Arrival.{came_at, came_by}
 use Rattle.endpoint_core.specs.Decision.{Sent}
 use Rattle.endpoint_core.specs.Event.{Event, frame_at, packet_at, change_at}
@@ -115,7 +115,7 @@ abbrev pub with_event : Mesh → ℕ → Event → ℕ → State
 with_event m endpoint e k = if k == endpoint then after (m.endpoints endpoint) e else m.endpoints k
 
 -- after a local frame that entered a segment, or none
-abbrev pub after_local : Mesh → ℕ → ℕ → Event → Result Came Refused → Mesh
+abbrev pub after_local : Mesh → ℕ → ℕ → Event → Result Arrival Refused → Mesh
 after_local m endpoint port e (Ok x) =
     let S = settings_at m endpoint in
     let origin : Origin = record { number = m.frames; endpoint = endpoint; port = port; vid = x.vid; frame = x.frame } in
@@ -130,7 +130,7 @@ after_local m endpoint port e (Err refused) =
     record { endpoints = with_event m endpoint e; flying = m.flying; left = m.left; frames = m.frames + 1 }
 
 -- after the delivery of packet y, which brought a frame into a segment, or none; the rest is still on its way
-abbrev pub after_delivery : Mesh → ℕ → Event → Flying → List Flying → Result Came Refused → Mesh
+abbrev pub after_delivery : Mesh → ℕ → Event → Flying → List Flying → Result Arrival Refused → Mesh
 after_delivery m endpoint e y rest (Ok x) =
     let S = settings_at m endpoint in
     let sent = outcomes_of (answer (m.endpoints endpoint) e) in

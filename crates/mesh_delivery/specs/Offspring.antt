@@ -1,17 +1,17 @@
 -- What the frames that leave in a full mesh owe to the frame that came in. It states no standard.
 use Rattle.std.specs.Prelude.{◌≡◌, ℕ, ◌==◌, ◌&&◌, Bool, false, Option, Some, None}
 use Rattle.std.specs.Option.{option_map}
-use Rattle.frame_view.specs.Frame.{Frame}
-use Rattle.ip_udp_view.specs.declared.addr.Tunnel.{Tunnel}
+use Rattle.wire.specs.Frame.{Frame}
+use Rattle.wire.specs.declared.ip_udp.addr.Tunnel.{Tunnel}
 use Rattle.filter_db.specs.declared.place.Place.{Place}
 use Rattle.filter_db.specs.declared.place.Place.TheVariants.{Local, Remote}
-use Rattle.vlan_ports.specs.declared.member.Egress.{Egress}
-use Rattle.vlan_ports.specs.Ports.{egress_at}
-use Rattle.underlay.specs.declared.settings.Underlay.{Underlay}
-use Rattle.underlay.specs.Overlay.{tunnel_at}
-use Rattle.underlay.specs.Settings.{is_own}
+use Rattle.overlay.specs.declared.ports.member.Egress.{Egress}
+use Rattle.overlay.specs.Ports.{egress_at}
+use Rattle.overlay.specs.declared.underlay.settings.Underlay.{Underlay}
+use Rattle.overlay.specs.Overlay.{tunnel_at}
+use Rattle.overlay.specs.UnderlaySettings.{is_own}
 use Rattle.encapsulate.specs.Emission.{local_text}
-use Rattle.endpoint_state.specs.Settings.{Settings}
+use Rattle.endpoint_core.specs.Settings.{Settings}
 use Rattle.mesh_delivery.specs.Mesh.{Flying, Left}
 
 -- offspring of the local frame of this number that left at this port of this endpoint

@@ -1,12 +1,12 @@
 //! The law of a mesh and the two facts that it follows from, each the contract of a function that does nothing.
 ghost use Rattle.std.specs.Prelude.{◌≡◌, ◌≤◌, ℕ, List, Some, Ok};
 ghost use Rattle.std.specs.List.{AllByRecursion, count_by};
-ghost use Rattle.underlay.specs.declared.settings.Underlay.{Underlay};
-ghost use Rattle.underlay.specs.Settings.{is_own};
-ghost use Rattle.overlay_settings.specs.Rules.{MeetsRules};
-ghost use Rattle.overlay_settings.specs.Settings.{Settings as Told};
-ghost use Rattle.endpoint_state.specs.Opened.{settings_told};
-ghost use Rattle.endpoint_state.specs.Settings.{SegmentSettings, segment_at};
+ghost use Rattle.overlay.specs.declared.underlay.settings.Underlay.{Underlay};
+ghost use Rattle.overlay.specs.UnderlaySettings.{is_own};
+ghost use Rattle.overlay.specs.Rules.{MeetsRules};
+ghost use Rattle.overlay.specs.Settings.{Settings as Told};
+ghost use Rattle.endpoint_core.specs.Opened.{settings_told};
+ghost use Rattle.endpoint_core.specs.Settings.{SegmentSettings, segment_at};
 ghost use Rattle.endpoint_core.specs.Event.{Event, frame_at, packet_at};
 ghost use Rattle.endpoint_core.specs.Step.{State, opened, answer, state_after};
 ghost use Rattle.mesh_delivery.specs.Full.{AreOneGroup, IsMesh, Throughout};

@@ -10,6 +10,9 @@
 //! where it came in, in their own segment or one with the tunnel kind and VNI that they were sent with, and with destination,
 //! source and body unchanged.
 //!
+//! Proved besides:
+//! - What comes by a tunnel goes to local ports alone: `laws::deliveries_stay_local`.
+//!
 //! Why it is so: the packets on their way are a list, and a delivery takes one out: that each is delivered at most once is no
 //! premise. Two endpoints may own one address. A mesh's endpoints have the settings of texts, so that a reader has no rules or
 //! lengths of settings to check. A mesh whose flood lists hold groups isn't covered: a run delivers a packet to the owner of
@@ -18,3 +21,5 @@
 #![tactic(auto)]
 
 pub mod laws;
+pub mod one_bridge;
+pub mod peers;

@@ -1,7 +1,7 @@
 -- What comes from the changes is these.
 use Rattle.std.proofs.Common.{◌≡◌, ◌∙◌, refl, sym, ap, subst, ℕ, ◌+◌, max, arith, Bool, List, [], ◌∷◌, ◌++◌, append_assoc, map, filter, length, slice_index_or}
 use Rattle.std.specs.List.{flat_map}
-use Rattle.pcap_io.specs.Record.{Record}
+use Rattle.pcap.specs.Record.{Record}
 use Rattle.timeline.proofs.Orders.{rising_stays}
 use Rattle.timeline.specs.Events.{all_events, change_events, events_of, record_events}
 use Rattle.timeline.specs.Inputs.{inputs, opened_captures}
@@ -13,9 +13,9 @@ use Rattle.timeline.specs.declared.event.Event.{Event as Happens}
 use Rattle.timeline.specs.declared.event.Happening.TheVariants as happenings
 use Rattle.timeline.specs.declared.source.Source.TheVariants as sources
 use Rattle.timeline.specs.declared.source.Tap.{Tap}
-use Rattle.overlay_settings.specs.Settings.{Settings as Told}
-use Rattle.overlay_settings.specs.declared.change.Change.{Change}
-use Rattle.overlay_settings.specs.declared.change.TimedChange.{TimedChange}
+use Rattle.overlay.specs.Settings.{Settings as Told}
+use Rattle.overlay.specs.declared.settings.change.Change.{Change}
+use Rattle.overlay.specs.declared.settings.change.TimedChange.{TimedChange}
 use Rattle.endpoint_core.specs.Event.{change_at}
 use Rattle.capture_run.specs.Outputs.{Outputs, event_of, input_of, no_change}
 use Rattle.noninterference.specs.Coming as coming

@@ -4,10 +4,10 @@ use Rattle.std.specs.Prelude.{nat_lt}
 use Rattle.std.specs.List.{AllByRecursion, cons_option, flat_map}
 use Rattle.std.specs.declared.alloc.Global.{Global}
 use Rattle.std.proofs.lemmas.Bool.{ltb-true, ltb-false}
-use Rattle.pcap_io.specs.Capture.{opened}
-use Rattle.pcap_io.specs.Reading.{Reading}
-use Rattle.pcap_io.specs.Record.{Record}
-use Rattle.pcap_io.specs.declared.header.CaptureFault.{CaptureFault}
+use Rattle.pcap.specs.Capture.{opened}
+use Rattle.pcap.specs.Reading.{Reading}
+use Rattle.pcap.specs.Record.{Record}
+use Rattle.pcap.specs.declared.text.header.CaptureFault.{CaptureFault}
 use Rattle.timeline.proofs.KnownEvents.{all-append}
 use Rattle.timeline.proofs.Orders.{all-put_in, all_merged, rising_merged}
 use Rattle.timeline.specs.Events.{all_events, change_events, events_of, record_events}
@@ -25,7 +25,7 @@ use Rattle.timeline.specs.declared.source.Source.{Source}
 use Rattle.timeline.specs.declared.source.Source.TheVariants as sources
 use Rattle.timeline.specs.declared.source.Tap.{Tap}
 use Rattle.timeline.specs.declared.source.Tap.TheVariants as taps
-use Rattle.overlay_settings.specs.declared.change.Change.{Change}
+use Rattle.overlay.specs.declared.settings.change.Change.{Change}
 use Rattle.endpoint_core.specs.Event as event
 use Rattle.capture_run.specs.Outputs.{event_of, input_of}
 use Rattle.capture_run.proofs.Growing.{rising_events}

@@ -3,15 +3,15 @@ use Rattle.std.proofs.Common.{◌≡◌, ◌∙◌, refl, sym, ap, ℕ, ◌==◌
 use Rattle.std.specs.Option.{option_map_or}
 use Rattle.std.specs.List.{flat_map}
 use Rattle.std.proofs.lemmas.Bool.{false≢true}
-use Rattle.overlay_settings.specs.Change.{named}
-use Rattle.endpoint_state.specs.Settings.{Settings}
-use Rattle.endpoint_state.specs.State.{State as Bridges, aged}
-use Rattle.endpoint_state.specs.Effect.{effect}
+use Rattle.overlay.specs.Change.{named}
+use Rattle.endpoint_core.specs.Settings.{Settings}
+use Rattle.endpoint_core.specs.State.{State as Bridges, aged}
+use Rattle.endpoint_core.specs.Effect.{effect}
 use Rattle.endpoint_core.specs.Event.{Input, FrameAt, Packet, Asks, Event, IsRising}
 use Rattle.endpoint_core.specs.Step.{State, opened, answer_by, after}
 use Rattle.capture_run.specs.Sendings.{sent_by}
-use Rattle.segment_isolation.specs.Alone.{is_segment, all_see, concerns_by, concerns, only, Told, told_of, told, told_in}
-use Rattle.segment_isolation.proofs.Running.{told-alone}
+use Rattle.noninterference.specs.Alone.{is_segment, all_see, concerns_by, concerns, only, Told, told_of, told, told_in}
+use Rattle.noninterference.proofs.Running.{told-alone}
 use Rattle.noninterference.specs.Leaving.{Row, rows, Departure, decided_in, departure, departing, departures_in, Line, line_of, lines_in}
 use Rattle.noninterference.proofs.Lists.{filter-flat_map, filter-none, filter-lines}
 

@@ -4,10 +4,10 @@ use Rattle.std.specs.List.{AllByRecursion, cons_option, flat_map}
 use Rattle.std.specs.declared.alloc.Global.{Global}
 use Rattle.std.proofs.lemmas.Bool.{ne_eqb}
 use Rattle.std.proofs.lemmas.List.{append-nil}
-use Rattle.pcap_io.specs.Capture.{opened}
-use Rattle.pcap_io.specs.Reading.{Reading}
-use Rattle.pcap_io.specs.Record.{Record}
-use Rattle.pcap_io.specs.declared.header.CaptureFault.{CaptureFault}
+use Rattle.pcap.specs.Capture.{opened}
+use Rattle.pcap.specs.Reading.{Reading}
+use Rattle.pcap.specs.Record.{Record}
+use Rattle.pcap.specs.declared.text.header.CaptureFault.{CaptureFault}
 use Rattle.timeline.proofs.Orders.{captures_rise, rising_stays}
 use Rattle.timeline.specs.Events.{all_events, change_events, events_of, record_events}
 use Rattle.timeline.specs.Inputs.{inputs, inputs_from, opened_by, opened_captures}
@@ -20,8 +20,8 @@ use Rattle.timeline.specs.declared.event.Happening.TheVariants as happenings
 use Rattle.timeline.specs.declared.source.Source.TheVariants as sources
 use Rattle.timeline.specs.declared.source.Tap.{Tap}
 use Rattle.timeline.specs.declared.source.Tap.TheVariants as taps
-use Rattle.overlay_settings.specs.Settings.{Settings as Told}
-use Rattle.overlay_settings.specs.declared.change.Change.{Change}
+use Rattle.overlay.specs.Settings.{Settings as Told}
+use Rattle.overlay.specs.declared.settings.change.Change.{Change}
 use Rattle.endpoint_core.specs.Event.{frame_at, packet_at}
 use Rattle.capture_run.specs.Outputs.{Outputs, event_of, input_of}
 use Rattle.noninterference.specs.Coming as coming

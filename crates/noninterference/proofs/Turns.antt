@@ -8,7 +8,7 @@ use Rattle.timeline.specs.declared.source.Tap.{Tap}
 use Rattle.timeline.specs.declared.source.Tap.TheVariants as taps
 use Rattle.endpoint_core.specs.Event.{Event}
 use Rattle.endpoint_core.specs.Step.{State, after}
-use Rattle.segment_isolation.specs.Alone.{concerns, only}
+use Rattle.noninterference.specs.Alone.{concerns, only}
 use Rattle.noninterference.specs.Coming.{source_of, is_tap, is_source, from_source}
 use Rattle.noninterference.proofs.Lists.{all-filter}
 

@@ -5,7 +5,7 @@
 --     IsTold, IsToldAsItIs, AreChangesTold      what comes from a source is what stands there
 use Rattle.std.specs.Prelude.{◌≡◌, ◌≤◌, ℕ, ◌==◌, Bool, true, false, List, [], ◌∷◌, map, filter, Vec, Ok}
 use Rattle.std.specs.declared.alloc.Global.{Global}
-use Rattle.pcap_io.specs.Record.{Record}
+use Rattle.pcap.specs.Record.{Record}
 use Rattle.timeline.specs.Events.{events_of}
 use Rattle.timeline.specs.Timeline.{Timeline, told}
 use Rattle.timeline.specs.declared.capture.Opened.{Opened}
@@ -13,15 +13,15 @@ use Rattle.timeline.specs.declared.source.Source.{Source}
 use Rattle.timeline.specs.declared.source.Source.TheVariants as sources
 use Rattle.timeline.specs.declared.source.Tap.{Tap}
 use Rattle.timeline.specs.declared.source.Tap.TheVariants as taps
-use Rattle.overlay_settings.specs.Settings.{Settings}
-use Rattle.overlay_settings.specs.declared.change.Change.{Change}
-use Rattle.overlay_settings.specs.declared.change.TimedChange.{TimedChange}
-use Rattle.endpoint_state.specs.Opened.{settings_told}
+use Rattle.overlay.specs.Settings.{Settings}
+use Rattle.overlay.specs.declared.settings.change.Change.{Change}
+use Rattle.overlay.specs.declared.settings.change.TimedChange.{TimedChange}
+use Rattle.endpoint_core.specs.Opened.{settings_told}
 use Rattle.endpoint_core.specs.Event.{Input, FrameAt, Packet, Asks, Event, frame_at, packet_at, change_at}
 use Rattle.endpoint_core.specs.Step.{opened}
 use Rattle.capture_run.specs.Outputs.{Outputs, event_of}
 use Rattle.capture_run.specs.Run.{run}
-use Rattle.segment_isolation.specs.Alone.{only}
+use Rattle.noninterference.specs.Alone.{only}
 
 -- ---- what comes in
 

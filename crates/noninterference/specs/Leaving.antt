@@ -7,22 +7,22 @@
 --     numbered, line_text      decision lines with their numbers, and their octets
 use Rattle.std.specs.Prelude.{ℕ, ◌+◌, ◌-◌, ◌&&◌, Bool, List, [], ◌∷◌, ◌++◌, map, filter, slice_index_or, codes, Option, None}
 use Rattle.std.specs.List.{flat_map}
-use Rattle.pcap_io.specs.Record.{Record}
+use Rattle.pcap.specs.Record.{Record}
 use Rattle.timeline.specs.Timeline.{Timeline}
 use Rattle.timeline.specs.declared.event.Event.{Event as Happens}
 use Rattle.timeline.specs.declared.source.Source.{Source}
 use Rattle.timeline.specs.declared.source.Tap.{Tap}
 use Rattle.timeline.specs.declared.source.Tap.TheVariants as taps
-use Rattle.overlay_settings.specs.Change.{named}
-use Rattle.overlay_settings.specs.Settings.{Settings}
-use Rattle.endpoint_state.specs.Opened.{settings_told}
+use Rattle.overlay.specs.Change.{named}
+use Rattle.overlay.specs.Settings.{Settings}
+use Rattle.endpoint_core.specs.Opened.{settings_told}
 use Rattle.endpoint_core.specs.Event.{Input, FrameAt, Packet, Asks, Event}
 use Rattle.endpoint_core.specs.Step.{State, Answer, Decided, Replied, opened, answer, after}
 use Rattle.endpoint_core.specs.Text.{result_of}
 use Rattle.decision_lines.specs.Lines.{front_text, segment_text, reply_text}
 use Rattle.capture_run.specs.Outputs.{Outputs}
 use Rattle.capture_run.specs.Sendings.{Sending, sent_by, is_at_port, is_at_underlay, record_of}
-use Rattle.segment_isolation.specs.Alone.{is_segment}
+use Rattle.noninterference.specs.Alone.{is_segment}
 use Rattle.noninterference.specs.Coming.{Inputs, coming, source_of}
 
 -- ---- events with their answers

@@ -1,2 +1,3 @@
+pub mod Alone
 pub mod Coming
 pub mod Leaving

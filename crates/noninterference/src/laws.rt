@@ -1,19 +1,19 @@
 //! The laws of two runs.
 ghost use Rattle.std.specs.Prelude.{◌≡◌, ℕ, List, ◌++◌, length, map};
 ghost use Rattle.std.specs.List.{AllByRecursion, flat_map};
-ghost use Rattle.pcap_io.specs.Written.{written};
+ghost use Rattle.pcap.specs.Written.{written};
 ghost use Rattle.timeline.specs.Events.{IsTapOf};
 ghost use Rattle.timeline.specs.Inputs.{inputs, opened_captures};
 ghost use Rattle.timeline.specs.Timeline.{Timeline};
 ghost use Rattle.timeline.specs.declared.source.Source.{Source};
 ghost use Rattle.timeline.specs.declared.source.Tap.{Tap};
-ghost use Rattle.overlay_settings.specs.Settings.{Settings as Told};
-ghost use Rattle.endpoint_state.specs.Settings.{Settings};
+ghost use Rattle.overlay.specs.Settings.{Settings as Told};
+ghost use Rattle.endpoint_core.specs.Settings.{Settings};
 ghost use Rattle.endpoint_core.specs.Event.{Event, IsRising};
 ghost use Rattle.endpoint_core.specs.Step.{opened};
 ghost use Rattle.decision_lines.specs.Lines.{cut_line};
 ghost use Rattle.capture_run.specs.Outputs.{Outputs};
-ghost use Rattle.segment_isolation.specs.Alone.{only};
+ghost use Rattle.noninterference.specs.Alone.{only};
 ghost use Rattle.noninterference.specs.Coming.{Inputs, IsRunOf, IsTold, IsToldAsItIs, AreChangesTold, coming_to};
 ghost use Rattle.noninterference.specs.Leaving.{rows, rows_of, departures, departures_in, lines, lines_in};
 ghost use Rattle.noninterference.specs.Leaving.{records_at, records_in, capture_at, numbered, line_text};

@@ -3,15 +3,15 @@ use Rattle.std.proofs.Common.{◌≡◌, ℕ, zero, suc, codes, ◌≤◌, Bool,
 use Rattle.std.proofs.lemmas.Bool.{cases_Bool, and_parts, leb-true, false≢true}
 use Rattle.std.specs.Cmp.Lexicographic.{pointwise, slice_cmp}
 use Rattle.toml.specs.Data.{Data, integer, Members, no_members, member, same_key, get_member, as_integer}
-use Rattle.flood_lists.specs.declared.own.Own.{Own}
-use Rattle.underlay.specs.declared.limits.Limits.{Limits}
-use Rattle.underlay.specs.declared.settings.Underlay.{Underlay}
-use Rattle.underlay.specs.Settings.{own}
+use Rattle.overlay.specs.declared.flood.own.Own.{Own}
+use Rattle.overlay.specs.declared.underlay.limits.Limits.{Limits}
+use Rattle.overlay.specs.declared.underlay.settings.Underlay.{Underlay}
+use Rattle.overlay.specs.UnderlaySettings.{own}
 use Rattle.config_text.specs.declared.fault.SettingsFault.TheVariants.{BadValue}
 use Rattle.config_text.specs.Fault.{Meaning, ◌>>=◌}
 use Rattle.config_text.specs.Column.{in_range, range, truth}
 use Rattle.config_text.specs.Table.{Place, top, path, required_value, required, default_value, optional_value, all_known, only, table_value, subtable, required_items, each}
-use Rattle.overlay_settings.specs.Settings.{Settings}
+use Rattle.overlay.specs.Settings.{Settings}
 use Rattle.overlay_config.specs.declared.version.Version.{Version}
 use Rattle.overlay_config.specs.declared.version.Version.TheVariants.{One, Two, Three}
 use Rattle.overlay_config.specs.Version.{version_named}

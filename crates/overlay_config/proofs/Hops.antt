@@ -6,11 +6,11 @@ use Rattle.std.specs.Cmp.Lexicographic.{slice_cmp, nat_list_cmp_total}
 use Rattle.std.specs.FinMap.{empty, get, insert, len, contains_key, get-empty, get-insert, len-empty, len-insert, nat_cmp-IsAntisymmetric, slice_cmp-IsAntisymmetric}
 use Rattle.std.proofs.lemmas.Map.Views.{tells_apart}
 use Rattle.std.proofs.lemmas.Option.{none-some, same_Some}
-use Rattle.ip_udp_view.specs.declared.addr.Addr.{Addr}
-use Rattle.ip_udp_view.specs.Addr.{address}
-use Rattle.overlay_settings.specs.Settings.{Exceptions}
+use Rattle.wire.specs.declared.ip_udp.addr.Addr.{Addr}
+use Rattle.wire.specs.Addr.{address}
+use Rattle.overlay.specs.Settings.{Exceptions}
 use Rattle.overlay_config.specs.Underlay.{with_exception, exceptions}
-use Rattle.overlay_settings.specs.Rules.{EachBehind, IsHop, AreHops}
+use Rattle.overlay.specs.Rules.{EachBehind, IsHop, AreHops}
 
 -- one more at most
 size : (hops : Exceptions) (octets mac : List ℕ) → len (insert hops octets mac) ≤ len hops + 1

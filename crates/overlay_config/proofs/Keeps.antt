@@ -6,15 +6,15 @@ use Rattle.std.proofs.lemmas.Bool.{cases_Bool, false≢true}
 use Rattle.std.proofs.lemmas.List.{length-map}
 use Rattle.std.proofs.lemmas.Str.{is_utf8-from_IsUtf8}
 use Rattle.toml.specs.Data.{Data, string, integer, float, boolean, datetime, array, table, Items, no_items, item, Members, same_key, get_member}
-use Rattle.flood_lists.specs.declared.own.Own.{Own}
-use Rattle.underlay.specs.declared.limits.Limits.{Limits}
-use Rattle.underlay.specs.Settings.{own}
+use Rattle.overlay.specs.declared.flood.own.Own.{Own}
+use Rattle.overlay.specs.declared.underlay.limits.Limits.{Limits}
+use Rattle.overlay.specs.UnderlaySettings.{own}
 use Rattle.config_text.specs.declared.fault.SettingsFault.TheVariants.{OverLimit}
 use Rattle.config_text.specs.Fault.{Meaning, ◌>>=◌, GivesAs, seen}
 use Rattle.config_text.specs.Column.{range}
 use Rattle.config_text.specs.Table.{Place, top, required_value, optional_value, all_known, table_value, subtable, list_of, items_value, limited, some_items, required_items, row_place, each, numbered}
-use Rattle.overlay_settings.specs.declared.segment.SegmentRule.{SegmentRule}
-use Rattle.overlay_settings.specs.Settings.{Settings}
+use Rattle.overlay.specs.declared.settings.segment.SegmentRule.{SegmentRule}
+use Rattle.overlay.specs.Settings.{Settings}
 use Rattle.overlay_config.specs.declared.version.Version.{Version}
 use Rattle.overlay_config.specs.declared.version.Version.TheVariants.{One, Two, Three}
 use Rattle.overlay_config.specs.Port.{port_of}

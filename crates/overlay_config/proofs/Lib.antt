@@ -12,6 +12,4 @@ mod SegmentKept
 mod Third
 mod Asked
 mod Versions
-mod FloodAsked
-mod PortsAsked
 mod Keeps

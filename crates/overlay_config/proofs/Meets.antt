@@ -5,44 +5,44 @@ use Rattle.std.specs.List.{list_any}
 use Rattle.std.proofs.lemmas.Bool.{ltb-false, and_parts, false≢true}
 use Rattle.std.proofs.lemmas.List.Sums.{sum_by-cons}
 use Rattle.toml.specs.Data.{Data, Members, Items, no_items, item, as_array, as_str}
-use Rattle.ip_udp_view.specs.declared.addr.Addr.{Addr}
-use Rattle.ip_udp_view.specs.declared.addr.Addr.TheVariants.{V4, V6}
-use Rattle.frame_view.specs.Address.{is_group as is_group_mac}
-use Rattle.ip_udp_view.specs.Addr.{IsAddr, is_group, is_usable, same_addr}
+use Rattle.wire.specs.declared.ip_udp.addr.Addr.{Addr}
+use Rattle.wire.specs.declared.ip_udp.addr.Addr.TheVariants.{V4, V6}
+use Rattle.wire.specs.Address.{is_group as is_group_mac}
+use Rattle.wire.specs.Addr.{IsAddr, is_group, is_usable, same_addr}
 use Rattle.std.specs.FinMap.{empty, len}
-use Rattle.flood_lists.specs.declared.own.Own.{Own}
-use Rattle.geneve_head.specs.Options.{holds}
-use Rattle.vlan_ports.specs.declared.port.Accept.TheVariants.{All}
-use Rattle.vlan_ports.specs.declared.port.PortRule.{PortRule}
-use Rattle.underlay.specs.declared.segment.PeerRule.TheVariants.{Any}
-use Rattle.underlay.specs.declared.limits.Limits.{Limits}
-use Rattle.underlay.specs.declared.settings.Underlay.{Underlay}
-use Rattle.underlay.specs.Settings.{own}
+use Rattle.overlay.specs.declared.flood.own.Own.{Own}
+use Rattle.wire.specs.GeneveOptions.{holds}
+use Rattle.overlay.specs.declared.ports.port.Accept.TheVariants.{All}
+use Rattle.overlay.specs.declared.ports.port.PortRule.{PortRule}
+use Rattle.overlay.specs.declared.underlay.segment.PeerRule.TheVariants.{Any}
+use Rattle.overlay.specs.declared.underlay.limits.Limits.{Limits}
+use Rattle.overlay.specs.declared.underlay.settings.Underlay.{Underlay}
+use Rattle.overlay.specs.UnderlaySettings.{own}
 use Rattle.config_text.specs.Fault.{Meaning}
 use Rattle.config_text.specs.declared.fault.SettingsFault.TheVariants.{Missing, BadValue, TwoSegments, OverLimit}
 use Rattle.config_text.specs.Address.{mac_of, ip4_of, ip6_of, addr_of}
 use Rattle.config_text.specs.Column.{range, truth, text, one_of, gathered, individual_mac, is_individual, is_endpoint, endpoint_addr, own_ip4, own_ip6}
 use Rattle.config_text.specs.Table.{Place, top, path, required, only, defaulted, optional, listed, items, limited_items, required_items, subtable, each, numbered, refuse_if}
 use Rattle.config_text.proofs.Addresses.{kept_some, then_some, mac_length, ip4_is, ip6_is}
-use Rattle.overlay_settings.specs.declared.segment.SegmentRule.{SegmentRule}
+use Rattle.overlay.specs.declared.settings.segment.SegmentRule.{SegmentRule}
 use Rattle.overlay_config.specs.declared.common_rules.CommonRules.{CommonRules}
 use Rattle.overlay_config.specs.declared.local_rules.LocalRules.{LocalRules}
 use Rattle.overlay_config.specs.CommonRules.{common_of, peer_words, tags_of}
 use Rattle.overlay_config.specs.LocalRules.{local_of, members_of}
 use Rattle.overlay_config.specs.Port.{port_of, port_keys, accept_words}
-use Rattle.overlay_settings.specs.Settings.{Exceptions}
+use Rattle.overlay.specs.Settings.{Exceptions}
 use Rattle.overlay_config.specs.Underlay.{exceptions, underlay_of, underlay_keys, partial_of, own_addrs_of, tunnel_ports_of, pair_in, known_option, with_known, put_known, hop_of, hop_keys, hops_of}
-use Rattle.overlay_settings.specs.Settings.{is_member}
+use Rattle.overlay.specs.Settings.{is_member}
 use Rattle.overlay_config.specs.Members.{with_member, put_member}
 use Rattle.overlay_config.specs.declared.version.Version.{Version}
 use Rattle.overlay_config.specs.declared.version.Version.TheVariants.{One, Two, Three}
 use Rattle.overlay_config.specs.Tunnel.{TunnelRules, tunnel_of, flood_of, tunnels_of}
 use Rattle.overlay_config.specs.Segment.{tables_of, rules_of, segment_of, segment_keys, is_taken}
-use Rattle.overlay_settings.specs.Settings.{Settings, sum_of_limits}
+use Rattle.overlay.specs.Settings.{Settings, sum_of_limits}
 use Rattle.overlay_config.specs.Settings.{version_of, given_pool_of, pool_for, segments_of, settings_of, settings_in}
 use Rattle.overlay_config.specs.Document.{document}
 use Rattle.overlay_config.specs.Limits.{addresses_in, usual_limits, limit_keys, limits_in, limits_of}
-use Rattle.overlay_settings.specs.Rules.{IsWithin, EachBehind, IsKnown, IsEndpoint, IsIndividual, IsHop, AreHops, IsUnderlay, IsPort, IsMember, IsSegment, HasEntries, MeetsRules}
+use Rattle.overlay.specs.Rules.{IsWithin, EachBehind, IsKnown, IsEndpoint, IsIndividual, IsHop, AreHops, IsUnderlay, IsPort, IsMember, IsSegment, HasEntries, MeetsRules}
 use Rattle.overlay_config.proofs.Hops.{all_size, none_size, hops_are}
 use Rattle.overlay_config.proofs.Readings.{bind_then, ok_is, fits_ok, refuse_ok, range_meets, required_meets, optional_meets, required_range, defaulted_range, limited_items_ok, required_items_ok, Longer, from_none, each_meets, gathered_meets, listed_meets, some_is, unless_ok, when_ok}
 use Rattle.overlay_config.proofs.Steps.{steps_of}

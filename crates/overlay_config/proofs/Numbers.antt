@@ -7,7 +7,7 @@ use Rattle.std.proofs.lemmas.List.Folds.{list_any-append}
 use Rattle.std.proofs.lemmas.Map.Keys.{IsDistinct-push}
 use Rattle.std.proofs.lemmas.Map.Steps.{length-le_from_distinct_below}
 use Rattle.std.specs.Cmp.{nat_eq_equiv}
-use Rattle.overlay_settings.specs.Settings.{is_member}
+use Rattle.overlay.specs.Settings.{is_member}
 use Rattle.overlay_config.specs.Members.{ArePortNumbers}
 
 pub no_numbers : ArePortNumbers []

@@ -10,7 +10,7 @@ use Rattle.config_text.specs.Fault.{Meaning, ◌>>=◌}
 use Rattle.config_text.specs.Column.{in_range, range, gathered}
 use Rattle.config_text.specs.Table.{Place, path, fits, required_value, required, default_value, defaulted, optional_value, optional, items, limited, limited_items, some_items, required_items, listed, each, row_place, refuse_if}
 use Rattle.config_text.proofs.Addresses.{then_some}
-use Rattle.overlay_settings.specs.Rules.{IsWithin, EachBehind}
+use Rattle.overlay.specs.Rules.{IsWithin, EachBehind}
 
 -- ---- steps
 

@@ -8,9 +8,9 @@ use Rattle.config_text.specs.declared.fault.SettingsFault.TheVariants.{NotRising
 use Rattle.config_text.specs.Fault.{GivesAs}
 use Rattle.config_text.specs.Column.{range, one_of}
 use Rattle.config_text.specs.Table.{Place, top, only, required, optional, limited_items, numbered, refuse_if}
-use Rattle.overlay_settings.specs.declared.change.TimedChange.{TimedChange}
+use Rattle.overlay.specs.declared.settings.change.TimedChange.{TimedChange}
 use Rattle.overlay_config.specs.Change.{kind_words, keys_of, change_in, change_of, changes_of, most_changes, moment_before, IsRising}
-use Rattle.overlay_settings.specs.Rules.{EachBehind}
+use Rattle.overlay.specs.Rules.{EachBehind}
 use Rattle.overlay_config.proofs.Readings.{bind_then, ok_is, refuse_ok, required_range, from_none, each_meets}
 
 change_rises : (earlier : List TimedChange) (at : Place) (c : TimedChange) → change_of earlier at ≡ Ok c → IsRising earlier c

@@ -2,7 +2,7 @@
 use Rattle.std.proofs.Common.{◌≡◌, ℕ, Bool, true, false, not, eqb, ◌||◌, nat_le, nat_lt, length, Option, Some, None, refl, ap, ◌∙◌, arith}
 use Rattle.std.specs.Prelude.{is_some, ◌==◌}
 use Rattle.std.proofs.lemmas.Bool.{ltb-true, eqb-true, false_from_ne_true}
-use Rattle.flood_lists.specs.Flood.{Entries, is_wide, has_room}
+use Rattle.overlay.specs.Flood.{Entries, is_wide, has_room}
 use Rattle.overlay_config.specs.Flood.{is_roomy}
 
 not_sixteen : (n : ℕ) → nat_lt 16 n ≡ true → not (n == 16) ≡ true

@@ -7,20 +7,20 @@ use Rattle.std.specs.List.{list_any}
 use Rattle.std.specs.Ordering.{match_ordering}
 use Rattle.std.specs.Cmp.Lexicographic.{pointwise, slice_cmp, bytes_decides}
 use Rattle.toml.specs.Data.{Data, array, table, no_items, item, Members, no_members, member, same_key, get_member}
-use Rattle.ip_udp_view.specs.declared.addr.Tunnel.{Tunnel}
-use Rattle.flood_lists.specs.declared.own.Own.{Own}
-use Rattle.flood_lists.specs.Flood.{Entries}
-use Rattle.underlay.specs.declared.segment.PeerRule.TheVariants.{Any}
-use Rattle.underlay.specs.declared.segment.TagRule.TheVariants.{Drop}
-use Rattle.underlay.specs.declared.limits.Limits.{Limits}
-use Rattle.underlay.specs.declared.tunnels.SegmentTunnel.{SegmentTunnel}
-use Rattle.underlay.specs.Settings.{own}
+use Rattle.wire.specs.declared.ip_udp.addr.Tunnel.{Tunnel}
+use Rattle.overlay.specs.declared.flood.own.Own.{Own}
+use Rattle.overlay.specs.Flood.{Entries}
+use Rattle.overlay.specs.declared.underlay.segment.PeerRule.TheVariants.{Any}
+use Rattle.overlay.specs.declared.underlay.segment.TagRule.TheVariants.{Drop}
+use Rattle.overlay.specs.declared.underlay.limits.Limits.{Limits}
+use Rattle.overlay.specs.declared.underlay.tunnels.SegmentTunnel.{SegmentTunnel}
+use Rattle.overlay.specs.UnderlaySettings.{own}
 use Rattle.config_text.specs.declared.fault.SettingsFault.{SettingsFault}
 use Rattle.config_text.specs.declared.fault.SettingsFault.TheVariants.{BadValue, OverLimit}
 use Rattle.config_text.specs.Fault.{Meaning, ◌>>=◌}
 use Rattle.config_text.specs.Column.{range, truth, one_of, gathered}
 use Rattle.config_text.specs.Table.{Place, path, fits, required_value, required, default_value, defaulted, all_known, only, items_value, limited, some_items, required_items, listed, each, numbered}
-use Rattle.overlay_settings.specs.declared.segment.SegmentRule.{SegmentRule}
+use Rattle.overlay.specs.declared.settings.segment.SegmentRule.{SegmentRule}
 use Rattle.overlay_config.specs.declared.local_rules.LocalRules.{LocalRules}
 use Rattle.overlay_config.specs.declared.version.Version.TheVariants.{One, Two}
 use Rattle.overlay_config.specs.declared.tunnel.TunnelTable.{TunnelTable}

@@ -1,14 +1,14 @@
 -- The steps by which settings are read, one behind the other.
 use Rattle.std.proofs.Common.{◌≡◌, ℕ, codes, List, [], Option, length, Ok}
 use Rattle.toml.specs.Data.{Data, Members}
-use Rattle.vlan_ports.specs.declared.port.PortRule.{PortRule}
-use Rattle.underlay.specs.declared.limits.Limits.{Limits}
-use Rattle.underlay.specs.declared.settings.Underlay.{Underlay}
-use Rattle.underlay.specs.Settings.{own}
+use Rattle.overlay.specs.declared.ports.port.PortRule.{PortRule}
+use Rattle.overlay.specs.declared.underlay.limits.Limits.{Limits}
+use Rattle.overlay.specs.declared.underlay.settings.Underlay.{Underlay}
+use Rattle.overlay.specs.UnderlaySettings.{own}
 use Rattle.config_text.specs.Fault.{◌>>=◌}
 use Rattle.config_text.specs.Table.{Place, top, subtable, required_items, each}
-use Rattle.overlay_settings.specs.Settings.{Settings}
-use Rattle.overlay_settings.specs.declared.segment.SegmentRule.{SegmentRule}
+use Rattle.overlay.specs.Settings.{Settings}
+use Rattle.overlay.specs.declared.settings.segment.SegmentRule.{SegmentRule}
 use Rattle.overlay_config.specs.declared.version.Version.{Version}
 use Rattle.overlay_config.specs.Limits.{addresses_in, limits_of}
 use Rattle.overlay_config.specs.Port.{port_of}

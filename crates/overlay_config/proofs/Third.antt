@@ -2,17 +2,17 @@
 use Rattle.std.proofs.Common.{◌≡◌, ℕ, codes, min, Bool, true, false, cond, nat_eq, nat_lt, List, [], ◌∷◌, ◌++◌, length, ◌+◌, Option, Some, None, option_and_then, Ok, refl, ap, ◌∙◌}
 use Rattle.std.specs.Cmp.Lexicographic.{pointwise}
 use Rattle.toml.specs.Data.{Data, get_member, as_str}
-use Rattle.flood_lists.specs.declared.own.Own.{Own}
-use Rattle.underlay.specs.declared.limits.Limits.{Limits}
-use Rattle.underlay.specs.declared.segment.PeerRule.TheVariants.{Any}
-use Rattle.underlay.specs.declared.segment.TagRule.{TagRule}
-use Rattle.underlay.specs.declared.segment.TagRule.TheVariants.{Drop, Never}
+use Rattle.overlay.specs.declared.flood.own.Own.{Own}
+use Rattle.overlay.specs.declared.underlay.limits.Limits.{Limits}
+use Rattle.overlay.specs.declared.underlay.segment.PeerRule.TheVariants.{Any}
+use Rattle.overlay.specs.declared.underlay.segment.TagRule.{TagRule}
+use Rattle.overlay.specs.declared.underlay.segment.TagRule.TheVariants.{Drop, Never}
 use Rattle.config_text.specs.declared.fault.SettingsFault.TheVariants.{OverLimit}
 use Rattle.config_text.specs.Fault.{Meaning, ◌>>=◌}
 use Rattle.config_text.specs.Column.{range, truth, word_in, one_of}
 use Rattle.config_text.specs.Table.{Place, path, fits, default_value, defaulted, required, only, row_place, each, refuse_if}
-use Rattle.overlay_settings.specs.declared.segment.SegmentRule.{SegmentRule}
-use Rattle.overlay_settings.specs.Settings.{sum_of_limits}
+use Rattle.overlay.specs.declared.settings.segment.SegmentRule.{SegmentRule}
+use Rattle.overlay.specs.Settings.{sum_of_limits}
 use Rattle.overlay_config.specs.declared.common_rules.CommonRules.{CommonRules}
 use Rattle.overlay_config.specs.declared.local_rules.LocalRules.{LocalRules}
 use Rattle.overlay_config.specs.declared.version.Version.{Version}
@@ -38,7 +38,7 @@ text_more : {A : Type 0} (words more : List (List ℕ × A)) (o : Option (List �
 text_more words more None t h = h
 text_more words more (Some s) t h = word_more words more s t h
 
-pub fits_more : {A : Type 0} (p : List ℕ) (a b : Option A) (t : A) → ((x : A) → a ≡ Some x → b ≡ Some x) → fits p a ≡ Ok t → fits p b ≡ Ok t
+fits_more : {A : Type 0} (p : List ℕ) (a b : Option A) (t : A) → ((x : A) → a ≡ Some x → b ≡ Some x) → fits p a ≡ Ok t → fits p b ≡ Ok t
 fits_more p None b t more h = absurd cc
 fits_more p (Some x) b t more h = ap (fits p) (more x refl) ∙ h
 

@@ -5,21 +5,21 @@ use Rattle.std.proofs.lemmas.Fmt.{length-decimal-le}
 use Rattle.std.specs.List.{list_any}
 use Rattle.std.proofs.lemmas.List.{append-nil}
 use Rattle.toml.specs.Data.{Data, as_str}
-use Rattle.ip_udp_view.specs.declared.addr.Addr.{Addr}
-use Rattle.ip_udp_view.specs.declared.addr.Tunnel.{Tunnel}
-use Rattle.ip_udp_view.specs.declared.addr.Tunnel.TheVariants.{Vxlan, Geneve}
-use Rattle.ip_udp_view.specs.Addr.{IsAddr, same_kind}
-use Rattle.flood_lists.specs.declared.own.Own.{Own}
-use Rattle.flood_lists.specs.declared.remote.Remote.{Remote}
-use Rattle.flood_lists.specs.First.{first}
-use Rattle.flood_lists.specs.Flood.{Entries, add_faults}
-use Rattle.underlay.specs.declared.tunnels.SegmentTunnel.{SegmentTunnel}
+use Rattle.wire.specs.declared.ip_udp.addr.Addr.{Addr}
+use Rattle.wire.specs.declared.ip_udp.addr.Tunnel.{Tunnel}
+use Rattle.wire.specs.declared.ip_udp.addr.Tunnel.TheVariants.{Vxlan, Geneve}
+use Rattle.wire.specs.Addr.{IsAddr, same_kind}
+use Rattle.overlay.specs.declared.flood.own.Own.{Own}
+use Rattle.overlay.specs.declared.flood.remote.Remote.{Remote}
+use Rattle.overlay.specs.First.{first}
+use Rattle.overlay.specs.Flood.{Entries, add_faults}
+use Rattle.overlay.specs.declared.underlay.tunnels.SegmentTunnel.{SegmentTunnel}
 use Rattle.config_text.specs.declared.fault.SettingsFault.TheVariants.{BadValue}
 use Rattle.config_text.specs.Address.{addr_of}
 use Rattle.config_text.specs.Column.{one_of, any_addr}
 use Rattle.config_text.specs.Table.{Place, path, required, only, defaulted, listed, limited_items, required_items, row_place, each, refuse_if}
 use Rattle.config_text.proofs.Addresses.{then_some, addr_is}
-use Rattle.overlay_settings.specs.Rules.{IsWithin, EachBehind, IsTunnel, IsRemote}
+use Rattle.overlay.specs.Rules.{IsWithin, EachBehind, IsTunnel, IsRemote}
 use Rattle.overlay_config.specs.declared.tunnel.TunnelTable.{TunnelTable}
 use Rattle.overlay_config.specs.Flood.{with_remote, put_remote}
 use Rattle.overlay_config.specs.Tunnel.{TunnelRules, tunnel_of, flood_of, tunnels_of, tunnel_table_of, tunnel_item_of, tunnel_keys, tunnel_words, vni_number, group_number, flood_behind}

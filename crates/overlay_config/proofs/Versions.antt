@@ -5,7 +5,7 @@ use Rattle.toml.specs.Data.{Data, integer, Members, get_member}
 use Rattle.config_text.specs.Fault.{Meaning, ◌>>=◌}
 use Rattle.config_text.specs.Column.{range}
 use Rattle.config_text.specs.Table.{Place, top, all_known, only, optional_value, optional, items_value, limited, limited_items, each}
-use Rattle.overlay_settings.specs.declared.change.TimedChange.{TimedChange}
+use Rattle.overlay.specs.declared.settings.change.TimedChange.{TimedChange}
 use Rattle.overlay_config.specs.Before as before
 use Rattle.overlay_config.specs.Change.{change_of, changes_of, most_changes}
 use Rattle.overlay_config.specs.Migrate.{with_value}

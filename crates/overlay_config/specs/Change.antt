@@ -2,28 +2,28 @@
 use Rattle.std.specs.Prelude.{ℕ, ◌+◌, ◌-◌, nat_lt, true, List, [], ◌∷◌, length, slice_get, Option, Some, None, Ok, Err, codes}
 use Rattle.std.specs.Option.{option_map_or}
 use Rattle.toml.specs.Data.{Data, Members}
-use Rattle.ip_udp_view.specs.declared.addr.Addr.{Addr}
-use Rattle.ip_udp_view.specs.declared.addr.Tunnel.{Tunnel}
-use Rattle.ip_udp_view.specs.declared.addr.Tunnel.TheVariants.{Vxlan, Geneve}
-use Rattle.underlay.specs.declared.tunnels.SegmentTunnel.{SegmentTunnel}
-use Rattle.vlan_ports.specs.declared.member.Egress.{Egress}
-use Rattle.vlan_ports.specs.declared.member.Egress.TheVariants.{Tagged, Untagged}
+use Rattle.wire.specs.declared.ip_udp.addr.Addr.{Addr}
+use Rattle.wire.specs.declared.ip_udp.addr.Tunnel.{Tunnel}
+use Rattle.wire.specs.declared.ip_udp.addr.Tunnel.TheVariants.{Vxlan, Geneve}
+use Rattle.overlay.specs.declared.underlay.tunnels.SegmentTunnel.{SegmentTunnel}
+use Rattle.overlay.specs.declared.ports.member.Egress.{Egress}
+use Rattle.overlay.specs.declared.ports.member.Egress.TheVariants.{Tagged, Untagged}
 use Rattle.config_text.specs.declared.fault.SettingsFault.TheVariants.{Missing, BadValue, NotRising}
 use Rattle.config_text.specs.Fault.{Meaning, ◌>>=◌}
 use Rattle.config_text.specs.Column.{range, truth, one_of, any_mac, any_addr}
 use Rattle.config_text.specs.Table.{Place, top, path, only, required, optional, defaulted, absent, limited_items, each, numbered, refuse_if}
-use Rattle.overlay_settings.specs.declared.change.Target.{Target}
-use Rattle.overlay_settings.specs.declared.change.Target.TheVariants.{Local, Remote}
-use Rattle.overlay_settings.specs.declared.change.Change.{Change}
-use Rattle.overlay_settings.specs.declared.change.Change.TheVariants as changes
-use Rattle.overlay_settings.specs.declared.change.NewSegment.{NewSegment}
-use Rattle.overlay_settings.specs.declared.change.TimedChange.{TimedChange}
+use Rattle.overlay.specs.declared.settings.change.Target.{Target}
+use Rattle.overlay.specs.declared.settings.change.Target.TheVariants.{Local, Remote}
+use Rattle.overlay.specs.declared.settings.change.Change.{Change}
+use Rattle.overlay.specs.declared.settings.change.Change.TheVariants as changes
+use Rattle.overlay.specs.declared.settings.change.NewSegment.{NewSegment}
+use Rattle.overlay.specs.declared.settings.change.TimedChange.{TimedChange}
 use Rattle.overlay_config.specs.declared.kind.Kind.{Kind}
 use Rattle.overlay_config.specs.declared.kind.Kind.TheVariants as kinds
 use Rattle.overlay_config.specs.CommonRules.{common_of}
 use Rattle.overlay_config.specs.Document.{document}
 use Rattle.overlay_config.specs.Tunnel.{tunnel_of, tunnel_words, vni_number, group_number}
-use Rattle.overlay_settings.specs.Rules.{IsWithin}
+use Rattle.overlay.specs.Rules.{IsWithin}
 
 -- the words of the kinds of changes
 abbrev pub kind_words : List (List ℕ × Kind)

@@ -1,10 +1,10 @@
 -- The keys `limit` to `tags`, of a segment of settings and of one that comes later. It states no standard.
 use Rattle.std.specs.Prelude.{ℕ, List, [], ◌∷◌, ◌++◌, Bool, true, false, Option, Ok, codes}
 use Rattle.toml.specs.Data.{Data}
-use Rattle.underlay.specs.declared.segment.PeerRule.{PeerRule}
-use Rattle.underlay.specs.declared.segment.PeerRule.TheVariants.{Any, Listed}
-use Rattle.underlay.specs.declared.segment.TagRule.{TagRule}
-use Rattle.underlay.specs.declared.segment.TagRule.TheVariants.{Drop, Pass, Never}
+use Rattle.overlay.specs.declared.underlay.segment.PeerRule.{PeerRule}
+use Rattle.overlay.specs.declared.underlay.segment.PeerRule.TheVariants.{Any, Listed}
+use Rattle.overlay.specs.declared.underlay.segment.TagRule.{TagRule}
+use Rattle.overlay.specs.declared.underlay.segment.TagRule.TheVariants.{Drop, Pass, Never}
 use Rattle.config_text.specs.Fault.{Meaning, ◌>>=◌}
 use Rattle.config_text.specs.Column.{truth, one_of}
 use Rattle.config_text.specs.Table.{Place, defaulted}

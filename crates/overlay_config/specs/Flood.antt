@@ -1,11 +1,11 @@
 -- The items of `segment.k.flood`. It states no standard.
 use Rattle.std.specs.Prelude.{ℕ, [], ◌∷◌, ◌++◌, nat_le, Bool, ◌||◌, is_some, is_none, if◌then◌else◌, Option, Some, None, option_and_then}
 use Rattle.toml.specs.Data.{Data}
-use Rattle.ip_udp_view.specs.declared.addr.Addr.{Addr}
-use Rattle.ip_udp_view.specs.declared.addr.Tunnel.{Tunnel}
-use Rattle.flood_lists.specs.declared.own.Own.{Own}
-use Rattle.flood_lists.specs.First.{first}
-use Rattle.flood_lists.specs.Flood.{Entries, add_faults, is_wide}
+use Rattle.wire.specs.declared.ip_udp.addr.Addr.{Addr}
+use Rattle.wire.specs.declared.ip_udp.addr.Tunnel.{Tunnel}
+use Rattle.overlay.specs.declared.flood.own.Own.{Own}
+use Rattle.overlay.specs.First.{first}
+use Rattle.overlay.specs.Flood.{Entries, add_faults, is_wide}
 use Rattle.config_text.specs.Column.{any_addr}
 
 -- a flood list of so many remotes at most with one more, where the list takes it

@@ -13,6 +13,4 @@ pub mod Segment
 pub mod Settings
 pub mod Change
 pub mod Before
-pub mod BeforePorts
-pub mod BeforeFlood
 pub mod Migrate

@@ -1,6 +1,6 @@
 -- The limits of settings: how much of each kind an endpoint has room for. It states no standard.
 use Rattle.std.specs.Prelude.{ℕ, ◌*◌, nat_lt, List, [], ◌∷◌, Ok, Err, codes}
-use Rattle.underlay.specs.declared.limits.Limits.{Limits}
+use Rattle.overlay.specs.declared.underlay.limits.Limits.{Limits}
 use Rattle.config_text.specs.declared.fault.SettingsFault.TheVariants.{OverLimit}
 use Rattle.config_text.specs.Fault.{Meaning, ◌>>=◌}
 use Rattle.config_text.specs.Column.{range}

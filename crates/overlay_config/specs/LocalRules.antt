@@ -1,8 +1,8 @@
 -- The keys of `segment.k` that say nothing of its tunnels, `limit` to `tagged`. It states no standard.
 use Rattle.std.specs.Prelude.{ℕ, Bool, min, List, [], Ok, codes}
-use Rattle.flood_lists.specs.Flood.{Entries}
-use Rattle.underlay.specs.declared.tunnels.SegmentTunnel.{SegmentTunnel}
-use Rattle.overlay_settings.specs.declared.segment.SegmentRule.{SegmentRule}
+use Rattle.overlay.specs.Flood.{Entries}
+use Rattle.overlay.specs.declared.underlay.tunnels.SegmentTunnel.{SegmentTunnel}
+use Rattle.overlay.specs.declared.settings.segment.SegmentRule.{SegmentRule}
 use Rattle.config_text.specs.Fault.{Meaning, ◌>>=◌}
 use Rattle.config_text.specs.Column.{range, gathered}
 use Rattle.config_text.specs.Table.{Place, path, items, fits}

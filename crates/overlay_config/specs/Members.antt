@@ -3,7 +3,7 @@ use Rattle.std.specs.Prelude.{◌≤◌, ℕ, List, [], ◌∷◌, ◌++◌, ◌
 use Rattle.std.specs.List.{IsDistinct}
 use Rattle.toml.specs.Data.{Data}
 use Rattle.config_text.specs.Column.{range}
-use Rattle.overlay_settings.specs.Settings.{is_member}
+use Rattle.overlay.specs.Settings.{is_member}
 
 -- members with one more port, which stands neither among them nor on the other list
 abbrev pub with_member : List ℕ → List ℕ → ℕ → Option (List ℕ)

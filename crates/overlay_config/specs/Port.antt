@@ -1,8 +1,8 @@
 -- The keys of `port.k`. It states no standard.
 use Rattle.std.specs.Prelude.{ℕ, List, [], ◌∷◌, true, Ok, codes}
-use Rattle.vlan_ports.specs.declared.port.Accept.{Accept}
-use Rattle.vlan_ports.specs.declared.port.Accept.TheVariants.{All, Tagged, Untagged}
-use Rattle.vlan_ports.specs.declared.port.PortRule.{PortRule}
+use Rattle.overlay.specs.declared.ports.port.Accept.{Accept}
+use Rattle.overlay.specs.declared.ports.port.Accept.TheVariants.{All, Tagged, Untagged}
+use Rattle.overlay.specs.declared.ports.port.PortRule.{PortRule}
 use Rattle.config_text.specs.Fault.{Meaning, ◌>>=◌}
 use Rattle.config_text.specs.Column.{range, truth, one_of}
 use Rattle.config_text.specs.Table.{Place, only, required, defaulted}

@@ -1,12 +1,12 @@
 -- The keys of `segment.k`. It states no standard.
 use Rattle.std.specs.Prelude.{ℕ, List, [], ◌∷◌, ◌++◌, ◌+◌, length, Bool, true, false, ◌||◌, ◌==◌, Ok, codes}
 use Rattle.std.specs.List.{list_any}
-use Rattle.flood_lists.specs.declared.own.Own.{Own}
-use Rattle.underlay.specs.declared.limits.Limits.{Limits}
-use Rattle.underlay.specs.declared.tunnels.SegmentTunnel.{SegmentTunnel}
-use Rattle.underlay.specs.Overlay as overlay
-use Rattle.overlay_settings.specs.declared.segment.SegmentRule.{SegmentRule}
-use Rattle.overlay_settings.specs.Settings.{tunnel_rule}
+use Rattle.overlay.specs.declared.flood.own.Own.{Own}
+use Rattle.overlay.specs.declared.underlay.limits.Limits.{Limits}
+use Rattle.overlay.specs.declared.underlay.tunnels.SegmentTunnel.{SegmentTunnel}
+use Rattle.overlay.specs.Overlay as overlay
+use Rattle.overlay.specs.declared.settings.segment.SegmentRule.{SegmentRule}
+use Rattle.overlay.specs.Settings.{tunnel_rule}
 use Rattle.config_text.specs.declared.fault.SettingsFault.TheVariants.{TwoSegments}
 use Rattle.config_text.specs.Fault.{Meaning, ◌>>=◌}
 use Rattle.config_text.specs.Column.{range}

@@ -1,17 +1,17 @@
 -- What a settings text means. It states no standard.
-pub use Rattle.overlay_settings.specs.Settings.{Settings}
+pub use Rattle.overlay.specs.Settings.{Settings}
 use Rattle.std.specs.Prelude.{ℕ, nat_lt, List, [], ◌∷◌, ◌++◌, length, Bool, true, false}
 use Rattle.std.specs.Prelude.{Option, Some, None, is_some, option_and_then, Ok, codes}
 use Rattle.toml.specs.Data.{Members, get_member}
-use Rattle.flood_lists.specs.declared.own.Own.{Own}
-use Rattle.underlay.specs.declared.limits.Limits.{Limits}
-use Rattle.underlay.specs.Settings.{own}
+use Rattle.overlay.specs.declared.flood.own.Own.{Own}
+use Rattle.overlay.specs.declared.underlay.limits.Limits.{Limits}
+use Rattle.overlay.specs.UnderlaySettings.{own}
 use Rattle.config_text.specs.declared.fault.SettingsFault.TheVariants.{OverLimit}
 use Rattle.config_text.specs.Fault.{Meaning, ◌>>=◌}
 use Rattle.config_text.specs.Column.{range}
 use Rattle.config_text.specs.Table.{Place, top, only, required, optional, subtable, required_items, each, refuse_if}
-use Rattle.overlay_settings.specs.declared.segment.SegmentRule.{SegmentRule}
-use Rattle.overlay_settings.specs.Settings.{sum_of_limits}
+use Rattle.overlay.specs.declared.settings.segment.SegmentRule.{SegmentRule}
+use Rattle.overlay.specs.Settings.{sum_of_limits}
 use Rattle.overlay_config.specs.Document.{document}
 use Rattle.overlay_config.specs.Limits.{addresses_in, limits_of}
 use Rattle.overlay_config.specs.Underlay.{underlay_of}

@@ -4,15 +4,15 @@ use Rattle.std.specs.Prelude.{if◌then◌else◌, Option, Some, None, is_none, 
 use Rattle.std.specs.List.{list_any}
 use Rattle.std.specs.FinMap.{empty, get, insert}
 use Rattle.toml.specs.Data.{Data, Items, no_items, item, as_array}
-use Rattle.ip_udp_view.specs.declared.addr.Addr.{Addr}
-use Rattle.ip_udp_view.specs.Addr.{address, same_addr}
-use Rattle.geneve_head.specs.Options.{holds}
-use Rattle.underlay.specs.declared.limits.Limits.{Limits}
-use Rattle.underlay.specs.declared.settings.Underlay.{Underlay}
+use Rattle.wire.specs.declared.ip_udp.addr.Addr.{Addr}
+use Rattle.wire.specs.Addr.{address, same_addr}
+use Rattle.wire.specs.GeneveOptions.{holds}
+use Rattle.overlay.specs.declared.underlay.limits.Limits.{Limits}
+use Rattle.overlay.specs.declared.underlay.settings.Underlay.{Underlay}
 use Rattle.config_text.specs.declared.fault.SettingsFault.TheVariants.{Missing, BadValue}
 use Rattle.config_text.specs.Fault.{Meaning, ◌>>=◌}
 use Rattle.config_text.specs.Column.{range, truth, individual_mac, endpoint_addr, own_ip4, own_ip6}
-use Rattle.overlay_settings.specs.Settings.{Exceptions}
+use Rattle.overlay.specs.Settings.{Exceptions}
 use Rattle.overlay_config.specs.declared.version.Version.TheVariants.{One, Two, Three}
 use Rattle.overlay_config.specs.Version.{Version}
 use Rattle.config_text.specs.Table.{Place, path, only, required, defaulted, optional, listed, limited_items, each, refuse_if}

@@ -5,7 +5,7 @@ ghost use Rattle.overlay_config.specs.Fault.{GivesAs};
 ghost use Rattle.config_text.specs.Reader.{place_of};
 ghost use Rattle.overlay_config.specs.Change.{moment_before, target_of, remote_of, other_kind, new_tunnels_of};
 ghost use Rattle.overlay_config.specs.Change.{new_segment_of, change_in, change_of, changes_in, changes_of, most_changes, IsRising};
-ghost use Rattle.overlay_settings.specs.Rules.{EachBehind};
+ghost use Rattle.overlay.specs.Rules.{EachBehind};
 
 use crate::common_rules::{USUAL_LIMIT, read_common};
 use crate::document::read_document;
@@ -15,13 +15,13 @@ use config_text::{
     AnyAddr, AnyMac, Key, Reader, Row, SettingsFault, Truth, U8Range, U32Range, U64Range,
     VidNumber, Words, read_rows,
 };
-use frame_view::Vid;
-use ip_udp_view::{Addr, Tunnel};
-use overlay_settings::{Change, NewSegment, Target, TimedChange};
+use overlay::ports::Egress;
+use overlay::settings::{Change, NewSegment, Target, TimedChange};
+use overlay::underlay::{SegmentTunnel, Tunnels};
 use std::alloc::Global;
 use toml::Table;
-use underlay::{SegmentTunnel, Tunnels};
-use vlan_ports::Egress;
+use wire::ether::Vid;
+use wire::ip_udp::{Addr, Tunnel};
 
 const EGRESSES: [(&str, Option<Egress>); 3] = [
     ("tagged", Some(Egress::Tagged)),

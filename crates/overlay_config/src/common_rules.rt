@@ -7,7 +7,7 @@ ghost use Rattle.config_text.specs.Reader.{place_of};
 ghost use Rattle.overlay_config.specs.CommonRules.{common_of, tags_of};
 
 use config_text::{Reader, SettingsFault, Truth, U32Range, Words};
-use underlay::{PeerRule, TagRule};
+use overlay::underlay::{PeerRule, TagRule};
 
 const PEERS: [(&str, PeerRule); 2] = [("any", PeerRule::Any), ("listed", PeerRule::Listed)];
 

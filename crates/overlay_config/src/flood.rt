@@ -11,10 +11,10 @@ ghost use Rattle.config_text.specs.Table.{listed};
 ghost use Rattle.overlay_config.specs.Flood.{put_remote, is_roomy};
 
 use config_text::{AnyAddr, Column, Reader, SettingsFault};
-use flood_lists::{FloodList, Own, Room};
-use ip_udp_view::Tunnel;
+use overlay::flood::{FloodList, Own, Room};
 use std::alloc::Global;
 use toml::Value;
+use wire::ip_udp::Tunnel;
 
 /// The most remotes of a list that stand in the list itself.
 const FEW: u16 = 16;

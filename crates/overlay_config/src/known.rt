@@ -4,8 +4,8 @@ ghost use Rattle.toml.specs.View.{view};
 ghost use Rattle.overlay_config.specs.Underlay.{known_option, put_known};
 
 use config_text::ListColumn;
-use geneve_head::Known;
 use toml::Value;
+use wire::geneve::Known;
 
 /// An option: its class, 0 to 65535, and its type, 0 to 255.
 #[tactic(auto, using(crate::proofs::Pairs::pair_in_other))]

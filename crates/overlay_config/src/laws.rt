@@ -1,13 +1,11 @@
 //! The laws of the definitions of settings and changes, as contracts of functions that do nothing.
 ghost use Rattle.std.specs.Prelude.{◌≡◌, ℕ, pos, IsFalse, List, None, Ok, codes};
-ghost use Rattle.overlay_settings.specs.Rules.{MeetsRules};
-ghost use Rattle.overlay_settings.specs.Settings.{Settings};
-ghost use Rattle.overlay_settings.specs.declared.change.TimedChange.{TimedChange};
+ghost use Rattle.overlay.specs.Rules.{MeetsRules};
+ghost use Rattle.overlay.specs.Settings.{Settings};
+ghost use Rattle.overlay.specs.declared.settings.change.TimedChange.{TimedChange};
 ghost use Rattle.toml.specs.Data.{Members, get_member, integer};
 ghost use Rattle.config_text.specs.Table.{top};
 ghost use Rattle.overlay_config.specs.Before as before;
-ghost use Rattle.overlay_config.specs.BeforeFlood as before_flood;
-ghost use Rattle.overlay_config.specs.BeforePorts as before_ports;
 ghost use Rattle.overlay_config.specs.Change.{changes_of};
 ghost use Rattle.overlay_config.specs.declared.version.Version.TheVariants.{Two};
 ghost use Rattle.overlay_config.specs.Migrate.{migrated, with_value};
@@ -23,18 +21,6 @@ pub fn meanings()
 pub fn before_limits()
     ensures others { (members : Members) → IsFalse (is_third (top members)) → settings_of members ≡ before.settings_of members }
     ensures unasked { (members : Members) → get_member (codes "limits") members ≡ None → settings_of members ≡ before.settings_of members }
-{}
-
-/// What settings meant before limits of ports and of next hops could be asked for, they mean: those of version 3 too, where
-/// their table `limits` has neither key.
-pub fn before_port_limits()
-    ensures { (members : Members) (s : Settings) → before_ports.settings_of members ≡ Ok s → settings_of members ≡ Ok s }
-{}
-
-/// What settings meant before a limit of a segment's remotes could be asked for, they mean: those of version 3 too, where their
-/// table `limits` has no key `flood`.
-pub fn before_flood_limits()
-    ensures { (members : Members) (s : Settings) → before_flood.settings_of members ≡ Ok s → settings_of members ≡ Ok s }
 {}
 
 /// Settings of version 2 mean the same with 3 in place of their version.

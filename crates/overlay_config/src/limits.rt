@@ -5,7 +5,7 @@ ghost use Rattle.overlay_config.specs.Limits.{addresses_in, limits_in, limits_of
 
 use crate::version::Version;
 use config_text::{Reader, SettingsFault, U8Range, U16Range, U32Range};
-use underlay::Limits;
+use overlay::underlay::Limits;
 
 const KEYS: [&str; 6] = ["ports", "segments", "flood", "hops", "entries", "addresses"];
 

@@ -6,11 +6,11 @@ ghost use Rattle.overlay_config.specs.LocalRules.{local_of, members_of};
 use crate::common_rules::{CommonRules, USUAL_LIMIT, read_common};
 use crate::members::{MemberList, MemberPorts};
 use config_text::{Reader, SettingsFault, U32Range, gather};
-use flood_lists::FloodList;
-use frame_view::Vid;
-use overlay_settings::SegmentRule;
-use underlay::Tunnels;
-use vlan_ports::PortList;
+use overlay::flood::FloodList;
+use overlay::ports::PortList;
+use overlay::settings::SegmentRule;
+use overlay::underlay::Tunnels;
+use wire::ether::Vid;
 
 const AGEING: U32Range = U32Range {
     low: 10,

@@ -2,9 +2,9 @@
 ghost use Rattle.overlay_config.specs.Members.{put_member};
 
 use config_text::{Column, ListColumn, U8Range};
+use overlay::ports::PortList;
 use std::marker::Model;
 use toml::Value;
-use vlan_ports::PortList;
 
 /// Numbers of ports, 1 to 255, none of them twice; seen by contracts as their list.
 #[derive(Drop)]
@@ -25,7 +25,7 @@ impl Model for MemberList {
 
 impl MemberList {
     ghost use Rattle.std.specs.Prelude.{◌≡◌, ◌≤◌, ◌++◌, ◌∷◌, [], IsFalse};
-    ghost use Rattle.overlay_settings.specs.Settings.{is_member};
+    ghost use Rattle.overlay.specs.Settings.{is_member};
 
     /// No port.
     #[tactic(auto, using(crate::proofs::Numbers::no_numbers))]
@@ -74,7 +74,7 @@ pub(crate) struct MemberPorts<'a> {
 
 impl MemberPorts<'_> {
     ghost use Rattle.std.specs.Prelude.{◌≡◌, ◌||◌};
-    ghost use Rattle.overlay_settings.specs.Settings.{is_member};
+    ghost use Rattle.overlay.specs.Settings.{is_member};
 
     /// Whether a port stands among these members, or on the other list.
     fn is_listed(&self, members: &[u8], port: u8) -> bool

@@ -2,7 +2,7 @@
 ghost use Rattle.overlay_config.specs.Port.{port_of};
 
 use config_text::{Reader, Row, SettingsFault, Truth, VidNumber, Words};
-use vlan_ports::{Accept, PortRule};
+use overlay::ports::{Accept, PortRule};
 
 const ACCEPTS: [(&str, Accept); 3] = [
     ("all", Accept::All),

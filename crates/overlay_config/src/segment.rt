@@ -7,11 +7,11 @@ use crate::local_rules::{LocalRules, read_local};
 use crate::tunnel::{TunnelRules, read_flood, read_tunnel, read_tunnels};
 use crate::version::Version;
 use config_text::{Key, Reader, Row, SettingsFault, VidNumber};
-use flood_lists::{Own, Room};
-use frame_view::Vid;
-use overlay_settings::SegmentRule;
+use overlay::flood::{Own, Room};
+use overlay::settings::SegmentRule;
+use overlay::underlay::Limits;
 use std::alloc::Global;
-use underlay::Limits;
+use wire::ether::Vid;
 
 /// Whether a segment has this VID, or a tunnel of the kind and VNI of one of these.
 fn is_alike(rule: &SegmentRule, vid: Vid, tunnels: &TunnelRules) -> bool

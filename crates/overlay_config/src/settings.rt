@@ -6,7 +6,7 @@ ghost use Rattle.std.specs.Prelude.{◌≡◌, IfOk, Ok, Err, ℕ, ◌+◌, ◌<
 ghost use Rattle.toml.specs.View.{table_view};
 ghost use Rattle.overlay_config.specs.Fault.{Gives, GivesAs};
 ghost use Rattle.config_text.specs.Reader.{place_of};
-ghost use Rattle.overlay_settings.specs.Settings.{sum_of_limits};
+ghost use Rattle.overlay.specs.Settings.{sum_of_limits};
 ghost use Rattle.overlay_config.specs.Settings.{given_pool_of, is_third, top_keys, pool_for};
 ghost use Rattle.overlay_config.specs.Settings.{segments_of, settings_in, settings_of, version_of};
 
@@ -17,11 +17,11 @@ use crate::segment::SegmentRow;
 use crate::underlay_table::read_underlay;
 use crate::version::Version;
 use config_text::{Key, Reader, SettingsFault, U8Range, U32Range, read_rows};
-use flood_lists::Own;
-use overlay_settings::{Parts, SegmentRule, Settings};
+use overlay::flood::Own;
+use overlay::settings::{Parts, SegmentRule, Settings};
+use overlay::underlay::Limits;
 use std::alloc::Global;
 use toml::Table;
-use underlay::Limits;
 
 const KEYS: [&str; 5] = ["version", "pool", "underlay", "port", "segment"];
 

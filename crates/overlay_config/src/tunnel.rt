@@ -6,20 +6,20 @@ ghost use Rattle.std.specs.Prelude.{◌≡◌, ◌≢◌, ◌≤◌, ◌+◌, []
 ghost use Rattle.std.specs.Option.{option_to_list};
 ghost use Rattle.toml.specs.View.{view};
 ghost use Rattle.config_text.specs.Reader.{place_of};
-ghost use Rattle.overlay_settings.specs.Settings.{tunnel_rule};
-ghost use Rattle.underlay.specs.Overlay.{has_tunnel, segment_of as told};
+ghost use Rattle.overlay.specs.Settings.{tunnel_rule};
+ghost use Rattle.overlay.specs.Overlay.{has_tunnel, segment_of as told};
 ghost use Rattle.overlay_config.specs.Flood.{is_roomy};
 ghost use Rattle.overlay_config.specs.Tunnel.{flood_behind, flood_of, tunnel_of, tunnel_item_of, tunnel_table_of, tunnels_of, vni_number};
 
 use crate::flood::Remotes;
 use config_text::{Column, Reader, SettingsFault, U8Range, Words};
-use flood_lists::{FloodList, Own, Room};
-use ip_udp_view::Tunnel;
-use overlay_settings::SegmentRule;
+use overlay::flood::{FloodList, Own, Room};
+use overlay::settings::SegmentRule;
+use overlay::underlay::{SegmentTunnel, Tunnels};
 use std::marker::Model;
 use toml::Value;
-use underlay::{SegmentTunnel, Tunnels};
-use vxlan_head::Vni;
+use wire::ip_udp::Tunnel;
+use wire::vxlan::Vni;
 
 const KEYS: [&str; 4] = ["kind", "vni", "group", "flood"];
 
@@ -99,8 +99,8 @@ impl Model for TunnelRules {
 impl TunnelRules {
     ghost use Rattle.std.specs.Prelude.{◌≡◌, ◌∷◌, []};
     ghost use Rattle.std.specs.List.{list_any};
-    ghost use Rattle.overlay_settings.specs.Settings.{tunnel_rule};
-    ghost use Rattle.underlay.specs.Overlay.{has_tunnel, segment_of as told};
+    ghost use Rattle.overlay.specs.Settings.{tunnel_rule};
+    ghost use Rattle.overlay.specs.Overlay.{has_tunnel, segment_of as told};
 
     /// One tunnel.
     pub(crate) fn one(tunnel: SegmentTunnel, flood: FloodList) -> TunnelRules

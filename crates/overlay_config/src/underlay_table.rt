@@ -2,7 +2,7 @@
 ghost use Rattle.std.specs.Prelude.{◌≡◌, OnOk, IfErr, Ok};
 ghost use Rattle.std.specs.FinMap.{empty};
 ghost use Rattle.std.specs.List.{list_any};
-ghost use Rattle.ip_udp_view.specs.Addr.{same_addr};
+ghost use Rattle.wire.specs.Addr.{same_addr};
 ghost use Rattle.config_text.specs.declared.fault.SettingsFault.TheVariants.{OutOfMemory};
 ghost use Rattle.config_text.specs.Fault.{Gives};
 ghost use Rattle.config_text.specs.Reader.{place_of};
@@ -15,11 +15,11 @@ use config_text::{
     EndpointAddr, IndividualMac, OwnIp4, OwnIp6, Reader, Row, SettingsFault, Truth, U8Range,
     U16Range, read_rows,
 };
-use frame_view::Mac;
-use geneve_head::Known;
-use ip_udp_view::Addr;
+use overlay::underlay::{Hops, Limits, Underlay};
 use std::alloc::Global;
-use underlay::{Hops, Limits, Underlay};
+use wire::ether::Mac;
+use wire::geneve::Known;
+use wire::ip_udp::Addr;
 
 const HOP_KEYS: [&str; 2] = ["addr", "mac"];
 

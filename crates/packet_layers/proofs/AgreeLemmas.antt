@@ -3,24 +3,24 @@ use Rattle.std.proofs.Common.{◌≡◌, ◌≢◌, ℕ, ltb, leb, eqb, Bool, tr
 use Rattle.std.specs.Prelude.{IsTrue, is_none, Result}
 use Rattle.std.proofs.lemmas.Bool.{false≢true}
 use Rattle.std.proofs.lemmas.List.Elements.{All-nil, All-push}
-use Rattle.frame_view.specs.First.{first, unless}
-use Rattle.frame_view.specs.Refusal.{as_refused}
-use Rattle.frame_view.proofs.FirstLemmas.{NothingHolds-from}
-use Rattle.frame_view.specs.declared.reason.Reason.{Reason}
-use Rattle.frame_view.specs.declared.reason.Reason.TheVariants.{Runt, BadSource, Reserved, NotIp, BadIp, BadIpSum, BadOuterSource, NotForUs, Fragment, NotUdp, BadUdp, NotTunnel, ZeroSum, BadUdpSum, UnknownVni, WrongGroup, UnknownPeer, InnerRunt, InnerTag}
-use Rattle.frame_view.specs.declared.reason.Refused.{Refused}
-use Rattle.ip_udp_view.specs.declared.addr.Addr.{Addr}
-use Rattle.ip_udp_view.specs.declared.addr.Tunnel.{Tunnel}
-use Rattle.ip_udp_view.specs.Parts.{Parts}
-use Rattle.ip_udp_view.specs.Addr.{is_group}
-use Rattle.ip_udp_view.specs.Ip.{Family, Ip4, Ip6, packet_parts, is_bad_ip, is_bad_ip_sum}
-use Rattle.ip_udp_view.specs.Udp.{udp_parts, data_of, is_bad_udp}
-use Rattle.ip_udp_view.specs.Datagram.{family, behind_tags, tags_text, ip_text, is_ip}
-use Rattle.underlay.specs.Overlay.{Overlay, segment_by, floods, is_listed, drops_tags}
-use Rattle.frame_view.specs.Address.{is_group as is_group_mac, is_reserved}
-use Rattle.frame_view.specs.Ether.{has_tag}
-use Rattle.frame_view.specs.Frame.{frame_of}
-use Rattle.underlay.specs.declared.segment.Segment.{Segment}
+use Rattle.wire.specs.First.{first, unless}
+use Rattle.wire.specs.Refusal.{as_refused}
+use Rattle.wire.proofs.FirstLemmas.{NothingHolds-from}
+use Rattle.wire.specs.declared.ether.reason.Reason.{Reason}
+use Rattle.wire.specs.declared.ether.reason.Reason.TheVariants.{Runt, BadSource, Reserved, NotIp, BadIp, BadIpSum, BadOuterSource, NotForUs, Fragment, NotUdp, BadUdp, NotTunnel, ZeroSum, BadUdpSum, UnknownVni, WrongGroup, UnknownPeer, InnerRunt, InnerTag}
+use Rattle.wire.specs.declared.ether.reason.Refused.{Refused}
+use Rattle.wire.specs.declared.ip_udp.addr.Addr.{Addr}
+use Rattle.wire.specs.declared.ip_udp.addr.Tunnel.{Tunnel}
+use Rattle.wire.specs.IpParts.{Parts}
+use Rattle.wire.specs.Addr.{is_group}
+use Rattle.wire.specs.Ip.{Family, Ip4, Ip6, packet_parts, is_bad_ip, is_bad_ip_sum}
+use Rattle.wire.specs.Udp.{udp_parts, data_of, is_bad_udp}
+use Rattle.wire.specs.Datagram.{family, behind_tags, tags_text, ip_text, is_ip}
+use Rattle.overlay.specs.Overlay.{Overlay, segment_by, floods, is_listed, drops_tags}
+use Rattle.wire.specs.Address.{is_group as is_group_mac, is_reserved}
+use Rattle.wire.specs.Ether.{has_tag}
+use Rattle.wire.specs.Frame.{frame_of}
+use Rattle.overlay.specs.declared.underlay.segment.Segment.{Segment}
 use Rattle.decapsulate.specs.Arrival.{outer_reasons, inner_reasons, packet_in, kind_to, frame_reasons, vni_of, inner_of, arrival_in, arrival_by, is_bad_source, is_elsewhere, sum_of, needs_sum, is_zero, is_wrong}
 use Rattle.decapsulate.specs.declared.arrived.Arrived.{Arrived}
 use Rattle.packet_layers.specs.declared.kind.HeadKind.{HeadKind}

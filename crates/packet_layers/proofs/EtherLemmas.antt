@@ -3,9 +3,9 @@ use Rattle.std.proofs.Common.{◌≡◌, ℕ, zero, suc, ◌+◌, ◌*◌, ◌�
 use Rattle.std.specs.List.{concat, AllByRecursion}
 use Rattle.std.proofs.lemmas.Bool.{le-leb}
 use Rattle.std.proofs.lemmas.List.{length-append, drop-drop, drop_at}
-use Rattle.frame_view.specs.Tag.{SkipsTags, IsOuterTag}
-use Rattle.frame_view.proofs.TagLemmas.{SkipsTags-without_tags}
-use Rattle.ip_udp_view.specs.Datagram.{behind_tags, tags_text}
+use Rattle.wire.specs.Tag.{SkipsTags, IsOuterTag}
+use Rattle.wire.proofs.TagLemmas.{SkipsTags-without_tags}
+use Rattle.wire.specs.Datagram.{behind_tags, tags_text}
 use Rattle.packet_layers.specs.declared.kind.HeadKind.TheVariants.{Ether}
 use Rattle.packet_layers.specs.Apart.{Apart, put}
 use Rattle.packet_layers.specs.Dissection.{tag_off, type_off, ether_off}

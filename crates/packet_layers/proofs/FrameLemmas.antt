@@ -2,19 +2,19 @@
 use Rattle.std.proofs.Common.{◌≡◌, ◌≢◌, ℕ, zero, suc, ◌-◌, ◌≤◌, eqb, true, false, List, [], ◌∷◌, drop, Option, Some, None, refl, sym, ap, ◌∙◌, arith}
 use Rattle.std.proofs.lemmas.Bool.{eq-eqb, ne_eqb}
 use Rattle.std.specs.Prelude.{is_none}
-use Rattle.frame_view.specs.First.{first}
-use Rattle.frame_view.proofs.FirstLemmas.{first-append}
-use Rattle.frame_view.specs.declared.reason.Reason.{Reason}
-use Rattle.frame_view.specs.declared.reason.Reason.TheVariants.{Runt, NotIp, BadIpSum, Fragment, BadUdp, NotTunnel, ZeroSum, CriticalOption}
-use Rattle.ip_udp_view.specs.declared.addr.Tunnel.{Tunnel}
-use Rattle.underlay.specs.Overlay.{Overlay}
-use Rattle.ip_udp_view.specs.Parts.{Parts}
-use Rattle.ip_udp_view.specs.Ip.{packet_parts}
-use Rattle.ip_udp_view.specs.Udp.{dport, data_of, SplitsUdp}
-use Rattle.ip_udp_view.specs.Datagram.{behind_tags}
-use Rattle.ip_udp_view.proofs.UdpLemmas.{ReadsAs-from}
-use Rattle.underlay.specs.declared.settings.Underlay.{Underlay}
-use Rattle.underlay.specs.Settings.{kind_at}
+use Rattle.wire.specs.First.{first}
+use Rattle.wire.proofs.FirstLemmas.{first-append}
+use Rattle.wire.specs.declared.ether.reason.Reason.{Reason}
+use Rattle.wire.specs.declared.ether.reason.Reason.TheVariants.{Runt, NotIp, BadIpSum, Fragment, BadUdp, NotTunnel, ZeroSum, CriticalOption}
+use Rattle.wire.specs.declared.ip_udp.addr.Tunnel.{Tunnel}
+use Rattle.overlay.specs.Overlay.{Overlay}
+use Rattle.wire.specs.IpParts.{Parts}
+use Rattle.wire.specs.Ip.{packet_parts}
+use Rattle.wire.specs.Udp.{dport, data_of, SplitsUdp}
+use Rattle.wire.specs.Datagram.{behind_tags}
+use Rattle.wire.proofs.UdpLemmas.{ReadsAs-from}
+use Rattle.overlay.specs.declared.underlay.settings.Underlay.{Underlay}
+use Rattle.overlay.specs.UnderlaySettings.{kind_at}
 use Rattle.decapsulate.specs.Arrival.{Packet, packet_at, packet_in, kind_to, frame_reasons, data_reasons, tunnel_reasons}
 use Rattle.decapsulate.proofs.ReasonsLemmas.{first-front}
 use Rattle.packet_layers.specs.declared.kind.Stop.{Stop}

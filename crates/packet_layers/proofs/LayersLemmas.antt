@@ -2,17 +2,17 @@
 use Rattle.std.proofs.Common.{◌≡◌, ℕ, zero, suc, ◌≤◌, ◌||◌, leb, eqb, Bool, true, false, not, cond, List, length, drop, Option, Some, None, refl, sym, ap, ◌∙◌, arith, inl, inr}
 use Rattle.std.proofs.lemmas.Bool.{or_cases, not-false}
 use Rattle.std.proofs.lemmas.List.{length-append}
-use Rattle.header_octets.proofs.OctetsLemmas.{begins-true}
-use Rattle.frame_view.proofs.FirstLemmas.{NothingHolds-from}
-use Rattle.frame_view.specs.declared.reason.Reason.{Reason}
-use Rattle.frame_view.specs.declared.reason.Reason.TheVariants.{Runt, NotIp, BadIpSum, Fragment, BadUdp, NotTunnel, ZeroSum, CriticalOption}
-use Rattle.ip_udp_view.specs.declared.addr.Tunnel.{Tunnel}
-use Rattle.ip_udp_view.specs.Ip.{Family, Ip4, Ip6, packet_parts, is_bad_ip}
-use Rattle.ip_udp_view.specs.Udp.{udp_parts, is_bad_udp}
-use Rattle.ip_udp_view.specs.Datagram.{behind_tags, tags_text, ether_type, has_type, family, ip_text}
-use Rattle.ip_udp_view.proofs.IpLemmas.{found-ip}
-use Rattle.ip_udp_view.proofs.UdpLemmas.{found-udp}
-use Rattle.underlay.specs.Overlay.{Overlay}
+use Rattle.wire.proofs.OctetsLemmas.{begins-true}
+use Rattle.wire.proofs.FirstLemmas.{NothingHolds-from}
+use Rattle.wire.specs.declared.ether.reason.Reason.{Reason}
+use Rattle.wire.specs.declared.ether.reason.Reason.TheVariants.{Runt, NotIp, BadIpSum, Fragment, BadUdp, NotTunnel, ZeroSum, CriticalOption}
+use Rattle.wire.specs.declared.ip_udp.addr.Tunnel.{Tunnel}
+use Rattle.wire.specs.Ip.{Family, Ip4, Ip6, packet_parts, is_bad_ip}
+use Rattle.wire.specs.Udp.{udp_parts, is_bad_udp}
+use Rattle.wire.specs.Datagram.{behind_tags, tags_text, ether_type, has_type, family, ip_text}
+use Rattle.wire.proofs.IpLemmas.{found-ip}
+use Rattle.wire.proofs.UdpLemmas.{found-udp}
+use Rattle.overlay.specs.Overlay.{Overlay}
 use Rattle.decapsulate.specs.Arrival.{packet_in, kind_to, header_octets}
 use Rattle.packet_layers.specs.declared.kind.HeadKind.TheVariants.{Ether, Tag, Kind, Udp}
 use Rattle.packet_layers.specs.declared.kind.Stop.{Stop}

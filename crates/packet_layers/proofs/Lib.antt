@@ -1,6 +1,8 @@
-pub mod RefusalLemmas
+pub mod AgreeLemmas
+pub mod DigitLemmas
 pub mod EtherLemmas
 pub mod FrameLemmas
-pub mod PartsLemmas
 pub mod LayersLemmas
-pub mod AgreeLemmas
+pub mod PartsLemmas
+pub mod RefusalLemmas
+pub mod TextLemmas

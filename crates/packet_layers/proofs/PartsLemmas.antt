@@ -7,7 +7,7 @@ use Rattle.std.proofs.lemmas.List.{length-append, take-take, drop-take, drop-dro
 use Rattle.std.proofs.lemmas.List.Elements.{All-nil, All-cons, All-append, All-push}
 use Rattle.std.proofs.lemmas.List.Folds.{concat-append}
 use Rattle.std.proofs.Math.Seq.{take-length}
-use Rattle.ip_udp_view.specs.Parts.{Parts, joined as side_by_side}
+use Rattle.wire.specs.IpParts.{Parts, joined as side_by_side}
 use Rattle.packet_layers.specs.declared.kind.HeadKind.{HeadKind}
 use Rattle.packet_layers.specs.Apart.{Span, Head, Apart, whole, tail_at, split, front, put, joined}
 use Rattle.packet_layers.specs.Laws.{StandsAt, AllStand}

@@ -1,14 +1,14 @@
 -- An endpoint's reasons, layer by layer.
 use Rattle.std.proofs.Common.{◌≡◌, ℕ, Bool, List, [], ◌∷◌, ◌++◌, Option, Some, None, refl, ap}
 use Rattle.std.specs.Prelude.{is_none}
-use Rattle.frame_view.specs.First.{first}
-use Rattle.frame_view.specs.declared.reason.Reason.{Reason}
-use Rattle.frame_view.specs.declared.reason.Reason.TheVariants.{Runt, NotIp, BadIpSum, Fragment, BadUdp, NotTunnel, ZeroSum, CriticalOption}
-use Rattle.ip_udp_view.specs.declared.addr.Tunnel.{Tunnel}
-use Rattle.ip_udp_view.specs.declared.addr.Tunnel.TheVariants.{Vxlan, Geneve}
-use Rattle.ip_udp_view.specs.Udp.{data_of}
-use Rattle.ip_udp_view.specs.Datagram.{behind_tags}
-use Rattle.underlay.specs.Overlay.{Overlay}
+use Rattle.wire.specs.First.{first}
+use Rattle.wire.specs.declared.ether.reason.Reason.{Reason}
+use Rattle.wire.specs.declared.ether.reason.Reason.TheVariants.{Runt, NotIp, BadIpSum, Fragment, BadUdp, NotTunnel, ZeroSum, CriticalOption}
+use Rattle.wire.specs.declared.ip_udp.addr.Tunnel.{Tunnel}
+use Rattle.wire.specs.declared.ip_udp.addr.Tunnel.TheVariants.{Vxlan, Geneve}
+use Rattle.wire.specs.Udp.{data_of}
+use Rattle.wire.specs.Datagram.{behind_tags}
+use Rattle.overlay.specs.Overlay.{Overlay}
 use Rattle.decapsulate.specs.Arrival.{packet_in, kind_to, frame_reasons, data_reasons}
 use Rattle.packet_layers.specs.Dissection.{rows, refusal}
 use Rattle.decapsulate.specs.Arrival.{typed_reasons}

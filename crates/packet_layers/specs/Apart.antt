@@ -2,7 +2,7 @@
 -- left between them. It states no standard.
 use Rattle.std.specs.Prelude.{ℕ, ◌+◌, nat_lt, if◌then◌else◌, List, [], ◌∷◌, ◌++◌, length, map, take, drop}
 use Rattle.std.specs.List.{concat}
-use Rattle.ip_udp_view.specs.Parts.{Parts}
+use Rattle.wire.specs.IpParts.{Parts}
 use Rattle.packet_layers.specs.declared.kind.HeadKind.{HeadKind}
 use Rattle.packet_layers.specs.declared.kind.HeadKind.TheVariants.{Ether}
 

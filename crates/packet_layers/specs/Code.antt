@@ -1,10 +1,10 @@
 -- The reasons of the layers, said of the text that stands behind the tags of a frame, and of an IP packet.
 -- It serves proofs.
 use Rattle.std.specs.Prelude.{◌==◌, Bool, not, List, [], ◌∷◌}
-use Rattle.frame_view.specs.declared.reason.Reason.{Reason}
-use Rattle.frame_view.specs.declared.reason.Reason.TheVariants.{Fragment, NotUdp, BadUdp}
-use Rattle.ip_udp_view.specs.Udp.{is_bad_udp}
-use Rattle.underlay.specs.declared.settings.Underlay.{Underlay}
+use Rattle.wire.specs.declared.ether.reason.Reason.{Reason}
+use Rattle.wire.specs.declared.ether.reason.Reason.TheVariants.{Fragment, NotUdp, BadUdp}
+use Rattle.wire.specs.Udp.{is_bad_udp}
+use Rattle.overlay.specs.declared.underlay.settings.Underlay.{Underlay}
 use Rattle.decapsulate.specs.Arrival as arrival
 use Rattle.decapsulate.specs.Arrival.{Packet, sum_of}
 

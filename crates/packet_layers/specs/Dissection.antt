@@ -4,16 +4,16 @@
 --     refusal      the reason of an endpoint
 --     dissection      the layers
 use Rattle.std.specs.Prelude.{ℕ, zero, suc, ◌==◌, ◌&&◌, nat_le, Bool, if◌then◌else◌, List, length, filter, Option, Some, None}
-use Rattle.frame_view.specs.First.{first}
-use Rattle.frame_view.specs.Reason.{number_of}
-use Rattle.frame_view.specs.declared.reason.Reason.{Reason}
-use Rattle.frame_view.specs.declared.reason.Reason.TheVariants.{Runt, NotIp, BadIpSum, Fragment, BadUdp, NotTunnel, ZeroSum, CriticalOption}
-use Rattle.ip_udp_view.specs.Ip.{Family, Ip4 as family_4, Ip6 as family_6, packet_parts}
-use Rattle.ip_udp_view.specs.Udp.{udp_parts}
-use Rattle.ip_udp_view.specs.Datagram.{family, tags_text}
-use Rattle.ip_udp_view.specs.declared.addr.Tunnel.{Tunnel}
-use Rattle.ip_udp_view.specs.declared.addr.Tunnel.TheVariants as tunnel
-use Rattle.underlay.specs.Overlay.{Overlay}
+use Rattle.wire.specs.First.{first}
+use Rattle.wire.specs.Reason.{number_of}
+use Rattle.wire.specs.declared.ether.reason.Reason.{Reason}
+use Rattle.wire.specs.declared.ether.reason.Reason.TheVariants.{Runt, NotIp, BadIpSum, Fragment, BadUdp, NotTunnel, ZeroSum, CriticalOption}
+use Rattle.wire.specs.Ip.{Family, Ip4 as family_4, Ip6 as family_6, packet_parts}
+use Rattle.wire.specs.Udp.{udp_parts}
+use Rattle.wire.specs.Datagram.{family, tags_text}
+use Rattle.wire.specs.declared.ip_udp.addr.Tunnel.{Tunnel}
+use Rattle.wire.specs.declared.ip_udp.addr.Tunnel.TheVariants as tunnel
+use Rattle.overlay.specs.Overlay.{Overlay}
 use Rattle.decapsulate.specs.Arrival.{outer_reasons, packet_in, kind_to, header_octets}
 use Rattle.packet_layers.specs.Apart.{Apart, whole, split, put}
 use Rattle.packet_layers.specs.declared.kind.HeadKind.{HeadKind}

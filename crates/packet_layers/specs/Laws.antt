@@ -1,13 +1,13 @@
 -- What the layers of a packet are together, and what they have to do with what an endpoint answers.
 -- It states no standard.
 use Rattle.std.specs.Prelude.{◌≡◌, ℕ, ◌||◌, Bool, true, false, IsTrue, List, length, All, Option, Err}
-use Rattle.header_octets.specs.Octets.{part}
-use Rattle.frame_view.specs.declared.reason.Reason.{Reason}
-use Rattle.frame_view.specs.declared.reason.Reason.TheVariants.{Runt, NotIp, BadIpSum, Fragment, CriticalOption}
+use Rattle.wire.specs.Octets.{part}
+use Rattle.wire.specs.declared.ether.reason.Reason.{Reason}
+use Rattle.wire.specs.declared.ether.reason.Reason.TheVariants.{Runt, NotIp, BadIpSum, Fragment, CriticalOption}
 use Rattle.packet_layers.specs.Apart.{Span, Head, Apart}
 use Rattle.packet_layers.specs.Dissection.{Layers, is_within}
 use Rattle.packet_layers.specs.declared.kind.Stop.TheVariants.{At}
-use Rattle.underlay.specs.Overlay.{Overlay}
+use Rattle.overlay.specs.Overlay.{Overlay}
 use Rattle.decapsulate.specs.Arrival.{arrival}
 use Rattle.packet_layers.specs.declared.kind.HeadKind.{HeadKind}
 use Rattle.packet_layers.specs.declared.kind.HeadKind.TheVariants.{Vxlan, Geneve}

@@ -1,7 +1,9 @@
 pub mod Apart
+pub mod Code
 pub mod Dissection
 pub mod Laws
-pub mod Code
+pub mod Text
+pub mod Values
 -- the words of the crates below that the clauses here cite
-pub use Rattle.frame_view.specs.First
-pub use Rattle.header_octets.specs.Octets
+pub use Rattle.wire.specs.First
+pub use Rattle.wire.specs.Octets

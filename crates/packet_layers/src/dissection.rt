@@ -1,6 +1,6 @@
 //! Taking packets apart.
 ghost use Rattle.std.specs.Prelude.{◌≡◌, ◌≤◌, ◌+◌, ◌*◌, length, OnOk};
-ghost use Rattle.frame_view.specs.First.{fault_of};
+ghost use Rattle.wire.specs.First.{fault_of};
 ghost use Rattle.packet_layers.specs.Apart.{joined};
 ghost use Rattle.packet_layers.specs.Dissection.{dissection, frame_off};
 ghost use Rattle.packet_layers.specs.Laws.{AllStand, AgreesWithArrival};
@@ -11,12 +11,12 @@ use crate::ip::take_ip;
 use crate::tunnel::take_tunnel;
 use crate::udp::{check_sum, take_udp};
 use crate::{Layers, Stop};
-use frame_view::Reason;
-use underlay::Under;
+use overlay::underlay::Overlay;
+use wire::ether::Reason;
 
 /// Takes a packet apart into layers that are there, in place of what they were, with at most `depth` tunnel headers, 1 to 4.
 /// Nothing is copied.
-pub fn dissect<'a>(layers: &mut Layers<'a>, octets: &'a [u8], under: &Under, depth: usize)
+pub fn dissect<'a>(layers: &mut Layers<'a>, octets: &'a [u8], under: &Overlay, depth: usize)
     requires low { 1 ≤ depth }
     requires high { depth ≤ 4 }
     ensures layers { layers.new ≡ dissection under.now depth octets.now }
@@ -29,7 +29,7 @@ pub fn dissect<'a>(layers: &mut Layers<'a>, octets: &'a [u8], under: &Under, dep
 }
 
 /// Takes off the layers of a packet, frame by frame, and answers why no more is taken off.
-fn take_layers<'a>(apart: &mut Apart<'a>, octets: &'a [u8], under: &Under, depth: usize) -> Stop
+fn take_layers<'a>(apart: &mut Apart<'a>, octets: &'a [u8], under: &Overlay, depth: usize) -> Stop
     requires { depth ≤ 4 }
     ensures { record { apart = apart.new; stop = result } ≡ dissection under.now depth octets.now }
 {
@@ -44,7 +44,7 @@ fn take_layers<'a>(apart: &mut Apart<'a>, octets: &'a [u8], under: &Under, depth
 }
 
 /// Takes off the layers of the frame that is left, where so many more tunnel headers may be taken off.
-fn take_frame(apart: &mut Apart, under: &Under, left: usize) -> Result<(), Stop>
+fn take_frame(apart: &mut Apart, under: &Overlay, left: usize) -> Result<(), Stop>
     requires heads { length apart.old.heads + 7 * left ≤ 28 }
     requires tails { length apart.old.tails + 2 * left ≤ 8 }
     ensures taken { frame_off under.now left apart.old ≡ record { apart = apart.new; stop = fault_of result } }

@@ -1,14 +1,14 @@
 //! The Ethernet header of a frame.
 ghost use Rattle.std.specs.Prelude.{◌≡◌, ◌≤◌, ◌<◌, ◌+◌, nat_le, length, IfOk, OnOk, OnErr};
-ghost use Rattle.frame_view.specs.First.{first, fault_of};
-ghost use Rattle.frame_view.specs.declared.reason.Reason.TheVariants.{Runt};
-ghost use Rattle.ip_udp_view.specs.Datagram.{behind_tags};
+ghost use Rattle.wire.specs.First.{first, fault_of};
+ghost use Rattle.wire.specs.declared.ether.reason.Reason.TheVariants.{Runt};
+ghost use Rattle.wire.specs.Datagram.{behind_tags};
 ghost use Rattle.decapsulate.specs.Arrival.{frame_reasons};
 ghost use Rattle.packet_layers.specs.Dissection.{rows, ether_off, tag_off, type_off};
 
 use crate::HeadKind;
 use crate::apart::Apart;
-use frame_view::{EtherView, Reason};
+use wire::ether::{EtherView, Reason};
 
 /// The most VLAN tags in front of the type of a frame.
 const MOST_TAGS: usize = 2;

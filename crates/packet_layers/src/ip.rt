@@ -1,8 +1,8 @@
 //! The IP packet in a frame.
 ghost use Rattle.std.specs.Prelude.{◌≡◌, ◌≤◌, ◌<◌, ◌+◌, length, drop, IfOk, OnOk, OnErr};
-ghost use Rattle.frame_view.specs.First.{first, fault_of};
-ghost use Rattle.ip_udp_view.specs.Ip.{packet_parts};
-ghost use Rattle.ip_udp_view.specs.View.{family_of};
+ghost use Rattle.wire.specs.First.{first, fault_of};
+ghost use Rattle.wire.specs.Ip.{packet_parts};
+ghost use Rattle.wire.specs.IpView.{family_of};
 ghost use Rattle.decapsulate.specs.Arrival.{family_named, packet_at, typed_reasons};
 ghost use Rattle.packet_layers.specs.Apart.{split};
 ghost use Rattle.packet_layers.specs.Dissection.{ip_kind};
@@ -10,8 +10,8 @@ ghost use Rattle.packet_layers.specs.Dissection.{ip_kind};
 use crate::HeadKind;
 use crate::apart::Apart;
 use decapsulate::{Packet, ip_view};
-use frame_view::Reason;
-use ip_udp_view::IpView;
+use wire::ether::Reason;
+use wire::ip_udp::IpView;
 
 /// Takes the IP header off a frame whose type is taken off, and what stands behind the IP length. `typed` is what stood
 /// behind the tags of the frame, with the type.

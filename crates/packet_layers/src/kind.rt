@@ -2,7 +2,7 @@
 ghost use Rattle.std.specs.Prelude.{◌≡◌};
 ghost use Rattle.packet_layers.specs.declared.kind.Stop.TheVariants.{At};
 
-use frame_view::Reason;
+use wire::ether::Reason;
 
 /// The header that a head is, or a part of one.
 #[derive(Clone, Copy, Debug, PartialEq, Eq)]

@@ -26,6 +26,7 @@ mod layers;
 mod part;
 mod tunnel;
 mod udp;
+pub mod words;
 
 pub use dissection::dissect;
 pub use kind::{HeadKind, Stop};

@@ -1,15 +1,15 @@
 //! The tunnel header in a datagram.
 ghost use Rattle.std.specs.Prelude.{◌≡◌, ◌≤◌, ◌<◌, ◌+◌, length, Some, OnOk, OnErr};
-ghost use Rattle.frame_view.specs.First.{first, fault_of};
+ghost use Rattle.wire.specs.First.{first, fault_of};
 ghost use Rattle.decapsulate.specs.Arrival.{tunnel_reasons};
 ghost use Rattle.packet_layers.specs.Dissection.{tunnel_off};
 
 use crate::HeadKind;
 use crate::apart::Apart;
-use frame_view::Reason;
-use geneve_head::{GnView, Known};
-use ip_udp_view::Tunnel;
-use vxlan_head::VxView;
+use wire::ether::Reason;
+use wire::geneve::{GeneveView, Known};
+use wire::ip_udp::Tunnel;
+use wire::vxlan::VxlanView;
 
 /// Takes the tunnel header of a kind off what is left.
 pub(crate) fn take_tunnel(apart: &mut Apart, known: &Known, kind: Tunnel) -> Result<(), Reason>
@@ -23,11 +23,11 @@ pub(crate) fn take_tunnel(apart: &mut Apart, known: &Known, kind: Tunnel) -> Res
 {
     match kind {
         Tunnel::Vxlan => {
-            let view = VxView::read(apart.left())?;
+            let view = VxlanView::read(apart.left())?;
             apart.split(HeadKind::Vxlan, view.head(), view.payload(), &[]);
         }
         Tunnel::Geneve => {
-            let view = GnView::read(apart.left(), known)?;
+            let view = GeneveView::read(apart.left(), known)?;
             apart.split(HeadKind::Geneve, view.head(), view.payload(), &[]);
         }
     }

@@ -1,16 +1,16 @@
 //! The UDP datagram in a packet.
 ghost use Rattle.std.specs.Prelude.{◌≡◌, ◌≤◌, ◌<◌, ◌+◌, length, IfOk, OnOk, OnErr};
-ghost use Rattle.frame_view.specs.First.{first, fault_of};
-ghost use Rattle.ip_udp_view.specs.Udp.{SplitsUdp, udp_parts};
+ghost use Rattle.wire.specs.First.{first, fault_of};
+ghost use Rattle.wire.specs.Udp.{SplitsUdp, udp_parts};
 ghost use Rattle.packet_layers.specs.Dissection.{udp_off};
 ghost use Rattle.packet_layers.specs.Code.{udp_reasons, sum_reasons};
 
 use crate::HeadKind;
 use crate::apart::Apart;
 use decapsulate::{Packet, sum_refusal};
-use frame_view::Reason;
-use ip_udp_view::{UDP, UdpView};
-use underlay::Underlay;
+use overlay::underlay::Underlay;
+use wire::ether::Reason;
+use wire::ip_udp::{UDP, UdpView};
 
 /// The octets of a header.
 const HEADER: usize = 8;

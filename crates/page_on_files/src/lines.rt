@@ -1,6 +1,6 @@
 //! The decision lines of a folder.
 use line_stream::{Lines, LinesFault};
-use pcap_stream::Input;
+use pcap::stream::Input;
 use program_faults::{Failure, OutputFile, WorkedFailure};
 use program_files::{PartFile, open_part_file};
 use report_counts::{ReportCounts, ReportLine, read_line};

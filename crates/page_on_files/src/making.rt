@@ -1,6 +1,6 @@
 //! The page.
 use crate::lines::{count_lines, moments_of};
-use pcap_stream::{BlockOutput, StdOutput};
+use pcap::stream::{BlockOutput, StdOutput};
 use program_faults::{Failure, OutputFile, SystemFault, UnwrittenFile, WorkedFailure, read_text};
 use program_files::{FoundFiles, OutputDevice, open_part_file, path_of};
 use report_counts::ReportCounts;

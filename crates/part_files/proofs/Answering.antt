@@ -1,21 +1,21 @@
 -- What an endpoint answers fits into a line and into records, whatever comes.
 use Rattle.std.proofs.Common.{◌≡◌, ◌≢◌, ◌∙◌, refl, sym, ap, subst, ℕ, suc, ◌≤◌, arith, List, [], ◌∷◌, length, map, Option, Some, None, Result, Ok, Err, IfOk}
 use Rattle.std.specs.List.{AllByRecursion}
-use Rattle.header_octets.specs.Octets.{IsText}
-use Rattle.frame_view.specs.Frame.{Frame}
-use Rattle.frame_view.specs.declared.reason.Reason.{Reason}
-use Rattle.frame_view.specs.declared.reason.Refused.{Refused}
+use Rattle.wire.specs.Octets.{IsText}
+use Rattle.wire.specs.Frame.{Frame}
+use Rattle.wire.specs.declared.ether.reason.Reason.{Reason}
+use Rattle.wire.specs.declared.ether.reason.Refused.{Refused}
 use Rattle.filter_db.specs.Table.{Table}
 use Rattle.filter_db.specs.declared.place.Place.{Place}
-use Rattle.vlan_ports.specs.Ports.{Ports}
-use Rattle.vlan_ports.specs.declared.port.PortRule.{PortRule}
-use Rattle.underlay.specs.declared.settings.Underlay.{Underlay}
+use Rattle.overlay.specs.Ports.{Ports}
+use Rattle.overlay.specs.declared.ports.port.PortRule.{PortRule}
+use Rattle.overlay.specs.declared.underlay.settings.Underlay.{Underlay}
 use Rattle.encapsulate.specs.Sender.{IsUnderlay}
-use Rattle.endpoint_state.specs.Settings.{SegmentSettings, Settings, segment_at}
-use Rattle.endpoint_state.specs.State.{State as Bridges, aged}
-use Rattle.endpoint_state.specs.Step.{after_frame, config_of, verdict, verdict_in}
+use Rattle.endpoint_core.specs.Settings.{SegmentSettings, Settings, segment_at}
+use Rattle.endpoint_core.specs.State.{State as Bridges, aged}
+use Rattle.endpoint_core.specs.StateStep.{after_frame, config_of, verdict, verdict_in}
 use Rattle.endpoint_core.specs.Arrival.{came_at, came_by}
-use Rattle.endpoint_core.specs.Came.{Came}
+use Rattle.endpoint_core.specs.Arrival.{Arrival}
 use Rattle.endpoint_core.specs.Decision.{Decision, Sent}
 use Rattle.endpoint_core.specs.Event.{Asks, Event, FrameAt, Input, Packet}
 use Rattle.endpoint_core.specs.Step.{Answer, Decided, Replied, State, after, answer, answer_by, bridges_after, by_verdict, decided, sent_at}
@@ -59,7 +59,7 @@ module _ (n : ℕ) (U : Underlay) (few : n ≤ 255) (own : IsUnderlay U) where
     sents-fit S vid f places k short all.1,
   )
 
-  by-verdict : (S : Settings) (x : Came) (r : Result (List Place) Reason) → Keeps n U S → IsCome x → IfOk r (AreOutlets n) → DecisionFits n (by_verdict S x r)
+  by-verdict : (S : Settings) (x : Arrival) (r : Result (List Place) Reason) → Keeps n U S → IsCome x → IfOk r (AreOutlets n) → DecisionFits n (by_verdict S x r)
   by-verdict S x (Ok places) k come are = record {
     outcomes = sents-fit S x.vid x.frame places k (record { dst = come.dst; src = come.src; body = come.body }) are.0;
     few = omega (arith, length-each (sent_at S x.vid x.frame) places, are.1);
@@ -74,7 +74,7 @@ module _ (n : ℕ) (U : Underlay) (few : n ≤ 255) (own : IsUnderlay U) where
       subst (λ (k : ℕ). IfOk (verdict_in ports (Some s) from f m) (AreOutlets k)) same
       (outlets-are (config_of ports s) from f m (omega (arith, same, few)) (flood s refl) all)
 
-  decided-fits : (t : ℕ) (B : Bridges) (r : Result Came Refused) → Knows n U B → ((x : Came) → r ≡ Ok x → IsCome x) → DecisionFits n (decided t B r)
+  decided-fits : (t : ℕ) (B : Bridges) (r : Result Arrival Refused) → Knows n U B → ((x : Arrival) → r ≡ Ok x → IsCome x) → DecisionFits n (decided t B r)
   decided-fits t B (Err refused) k come = record { outcomes = tt; few = omega arith; dropped = λ why is. refl }
   decided-fits t B (Ok x) k come =
       let after_it = knows-frame n U t x.vid x.from x.frame B (come x refl).from k in

@@ -3,29 +3,29 @@ use Rattle.std.proofs.Common.{◌≡◌, ◌≢◌, refl, sym, ap, subst, ℕ, �
 use Rattle.std.specs.List.{concat}
 use Rattle.std.proofs.lemmas.Bool.{ltb-false}
 use Rattle.std.proofs.lemmas.List.{length-drop, length-take}
-use Rattle.header_octets.specs.Octets.{IsText, octets}
-use Rattle.header_octets.proofs.OctetsLemmas.{IsText-drop, IsText-take}
-use Rattle.frame_view.specs.First.{first}
-use Rattle.frame_view.specs.Frame.{Frame, IsFrame, plain}
-use Rattle.frame_view.specs.declared.reason.Refused.{Refused}
-use Rattle.frame_view.proofs.FirstLemmas.{NothingHolds-from, unless-ok}
-use Rattle.frame_view.proofs.RefusalLemmas.{refused-ok}
-use Rattle.ip_udp_view.specs.Addr.{IsAddr}
-use Rattle.ip_udp_view.specs.Datagram.{ether_type}
-use Rattle.ip_udp_view.specs.Ip.{Family, Ip4, Ip6, IsHeader, source}
-use Rattle.ip_udp_view.specs.Udp.{udp_header}
-use Rattle.ip_udp_view.specs.declared.addr.Tunnel.{Tunnel}
-use Rattle.ip_udp_view.specs.declared.addr.Tunnel.TheVariants.{Geneve, Vxlan}
+use Rattle.wire.specs.Octets.{IsText, octets}
+use Rattle.wire.proofs.OctetsLemmas.{IsText-drop, IsText-take}
+use Rattle.wire.specs.First.{first}
+use Rattle.wire.specs.Frame.{Frame, IsFrame, plain}
+use Rattle.wire.specs.declared.ether.reason.Refused.{Refused}
+use Rattle.wire.proofs.FirstLemmas.{NothingHolds-from, unless-ok}
+use Rattle.wire.proofs.RefusalLemmas.{refused-ok}
+use Rattle.wire.specs.Addr.{IsAddr}
+use Rattle.wire.specs.Datagram.{ether_type}
+use Rattle.wire.specs.Ip.{Family, Ip4, Ip6, IsHeader, source}
+use Rattle.wire.specs.Udp.{udp_header}
+use Rattle.wire.specs.declared.ip_udp.addr.Tunnel.{Tunnel}
+use Rattle.wire.specs.declared.ip_udp.addr.Tunnel.TheVariants.{Geneve, Vxlan}
 use Rattle.filter_db.specs.declared.place.Place.TheVariants.{Local, Remote}
-use Rattle.vlan_ports.specs.Ports.{Ports}
-use Rattle.vlan_ports.specs.Ingress.{enters}
-use Rattle.underlay.specs.Overlay.{Overlay}
-use Rattle.underlay.specs.Settings.{port_of}
+use Rattle.overlay.specs.Ports.{Ports}
+use Rattle.overlay.specs.Ingress.{enters}
+use Rattle.overlay.specs.Overlay.{Overlay}
+use Rattle.overlay.specs.UnderlaySettings.{port_of}
 use Rattle.decapsulate.specs.Arrival as arrival
 use Rattle.decapsulate.specs.Arrival.{Arrives, IsTunnelled}
 use Rattle.decapsulate.specs.declared.arrived.Arrived.{Arrived}
 use Rattle.decapsulate.proofs.ArrivesLemmas.{brings_what_arrives}
-use Rattle.endpoint_core.specs.Came.{Came}
+use Rattle.endpoint_core.specs.Arrival.{Arrival}
 use Rattle.endpoint_core.specs.Arrival.{came_at, came_by, capture_reasons, entered, let_in, tunnelled}
 use Rattle.endpoint_core.proofs.ComingLemmas.{entered-short}
 use Rattle.endpoint_core.proofs.LetIn.{let_in-ok}
@@ -34,7 +34,7 @@ use Rattle.part_files.proofs.Coming.{text-behind, text-front}
 use Rattle.part_files.proofs.Remotes.{IsFar}
 
 -- a frame of no more octets than a packet has, from a place with an address
-pub record IsCome (x : Came) : Type 0 where
+pub record IsCome (x : Arrival) : Type 0 where
   pub from : IsFar x.from
   pub dst : length x.frame.dst ≡ 6
   pub src : length x.frame.src ≡ 6
@@ -91,10 +91,10 @@ arrived O b x t is =
       );
     }
 
-tunnelled-came : Arrived → Came
+tunnelled-came : Arrived → Arrival
 tunnelled-came y = record { vid = y.vid; from = Remote y.from.0 y.from.1; frame = y.frame }
 
-of-tunnel : (r : Result Arrived Refused) (x : Came) → ((y : Arrived) → r ≡ Ok y → (IsAddr y.from.1) × (IsFrame y.frame) × (length y.frame.body ≤ 65549)) → tunnelled r ≡ Ok x → IsCome x
+of-tunnel : (r : Result Arrived Refused) (x : Arrival) → ((y : Arrived) → r ≡ Ok y → (IsAddr y.from.1) × (IsFrame y.frame) × (length y.frame.body ≤ 65549)) → tunnelled r ≡ Ok x → IsCome x
 unfolding tunnelled-came
 of-tunnel (Err refused) x each h = absurd cc
 of-tunnel (Ok y) x each h =
@@ -102,7 +102,7 @@ of-tunnel (Ok y) x each h =
     let own = each y refl in
     subst IsCome same (record { from = own.0; dst = own.1.dst; src = own.1.src; body = own.2 })
 
-pub came_by-come : (O : Overlay) (original : ℕ) (b : List ℕ) (x : Came) → O.underlay.vxlan_port ≢ O.underlay.geneve_port → IsText b → came_by O original b ≡ Ok x → IsCome x
+pub came_by-come : (O : Overlay) (original : ℕ) (b : List ℕ) (x : Arrival) → O.underlay.vxlan_port ≢ O.underlay.geneve_port → IsText b → came_by O original b ≡ Ok x → IsCome x
 unfolding came_by
 came_by-come O original b x apart t h = of-tunnel (arrival.arrival_of O original b) x each h
   where
@@ -115,17 +115,17 @@ came_by-come O original b x apart t h = of-tunnel (arrival.arrival_of O original
 
 -- ---- by a local port
 
-entered-frame : ℕ → ℕ × Frame → Came
+entered-frame : ℕ → ℕ × Frame → Arrival
 entered-frame port found = record { vid = found.0; from = Local port; frame = found.1 }
 
-entered-body : (port : ℕ) (b : List ℕ) (r : Result (ℕ × Frame) Refused) (x : Came) → ((vid : ℕ) (f : Frame) → r ≡ Ok (vid, f) → length f.body ≤ length b) → entered port r ≡ Ok x → length x.frame.body ≤ length b
+entered-body : (port : ℕ) (b : List ℕ) (r : Result (ℕ × Frame) Refused) (x : Arrival) → ((vid : ℕ) (f : Frame) → r ≡ Ok (vid, f) → length f.body ≤ length b) → entered port r ≡ Ok x → length x.frame.body ≤ length b
 unfolding entered-frame
 entered-body port b (Err refused) x each h = absurd cc
 entered-body port b (Ok found) x each h =
     let same : entered-frame port found ≡ x = cc in
-    subst (λ (y : Came). length y.frame.body ≤ length b) same (each found.0 found.1 refl)
+    subst (λ (y : Arrival). length y.frame.body ≤ length b) same (each found.0 found.1 refl)
 
-pub came_at-come : (ports : Ports) (overlay : Overlay) (port original : ℕ) (b : List ℕ) (x : Came) → came_at ports overlay port original b ≡ Ok x → IsCome x
+pub came_at-come : (ports : Ports) (overlay : Overlay) (port original : ℕ) (b : List ℕ) (x : Arrival) → came_at ports overlay port original b ≡ Ok x → IsCome x
 unfolding came_at
 came_at-come ports overlay port original b x h =
     let parts = unless-ok (first (capture_reasons original b)) (let_in overlay (entered port (enters ports port b))) x h in

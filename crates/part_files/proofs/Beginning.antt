@@ -3,19 +3,19 @@ use Rattle.std.proofs.Common.{refl, sym, subst, ℕ, ◌≤◌, arith, List, [],
 use Rattle.std.specs.List.{AllByRecursion}
 use Rattle.std.specs.Ordering.{nat_cmp}
 use Rattle.std.specs.FinMap.{from_entries, get-empty}
-use Rattle.ip_udp_view.specs.Addr.{IsAddr}
-use Rattle.flood_lists.specs.Flood.{Entries}
-use Rattle.flood_lists.specs.declared.own.Own.{Own}
-use Rattle.flood_lists.specs.declared.remote.Remote.{Remote as Endpoint}
-use Rattle.underlay.specs.Overlay.{flood_in, segment_of}
-use Rattle.underlay.specs.declared.segment.Segment.{Segment}
-use Rattle.underlay.specs.declared.segment.TunnelRule.{TunnelRule}
-use Rattle.underlay.specs.declared.tunnels.SegmentTunnel.{SegmentTunnel}
-use Rattle.overlay_settings.specs.Rules.{EachBehind, IsRemote, IsSegment, MeetsRules}
-use Rattle.overlay_settings.specs.Settings.{Settings as Rules, tunnel_rule}
-use Rattle.overlay_settings.specs.declared.segment.SegmentRule.{SegmentRule}
-use Rattle.underlay.specs.Settings.{own}
-use Rattle.endpoint_state.specs.Opened.{settings_told}
+use Rattle.wire.specs.Addr.{IsAddr}
+use Rattle.overlay.specs.Flood.{Entries}
+use Rattle.overlay.specs.declared.flood.own.Own.{Own}
+use Rattle.overlay.specs.declared.flood.remote.Remote.{Remote as Endpoint}
+use Rattle.overlay.specs.Overlay.{flood_in, segment_of}
+use Rattle.overlay.specs.declared.underlay.segment.Segment.{Segment}
+use Rattle.overlay.specs.declared.underlay.segment.TunnelRule.{TunnelRule}
+use Rattle.overlay.specs.declared.underlay.tunnels.SegmentTunnel.{SegmentTunnel}
+use Rattle.overlay.specs.Rules.{EachBehind, IsRemote, IsSegment, MeetsRules}
+use Rattle.overlay.specs.Settings.{Settings as Rules, tunnel_rule}
+use Rattle.overlay.specs.declared.settings.segment.SegmentRule.{SegmentRule}
+use Rattle.overlay.specs.UnderlaySettings.{own}
+use Rattle.endpoint_core.specs.Opened.{settings_told}
 use Rattle.endpoint_core.specs.Step.{opened}
 use Rattle.part_files.proofs.Knowing.{IsFloodOf, Knows, no-flood, put-in}
 use Rattle.part_files.proofs.Remotes.{IsFar, IsFlood}

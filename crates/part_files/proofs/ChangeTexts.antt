@@ -3,16 +3,16 @@ use Rattle.std.proofs.Common.{◌≡◌, ℕ, List, Option, Some, None, Ok, IfOk
 use Rattle.std.specs.Prelude.{IfSome}
 use Rattle.std.specs.List.{AllByRecursion}
 use Rattle.toml.specs.Data.{Data, get_member, as_str}
-use Rattle.ip_udp_view.specs.declared.addr.Addr.{Addr}
-use Rattle.ip_udp_view.specs.declared.addr.Tunnel.{Tunnel}
-use Rattle.ip_udp_view.specs.Addr.{IsAddr}
+use Rattle.wire.specs.declared.ip_udp.addr.Addr.{Addr}
+use Rattle.wire.specs.declared.ip_udp.addr.Tunnel.{Tunnel}
+use Rattle.wire.specs.Addr.{IsAddr}
 use Rattle.config_text.specs.Fault.{◌>>=◌}
 use Rattle.config_text.specs.Address.{addr_of}
 use Rattle.config_text.specs.Column.{any_addr, one_of, range, truth}
 use Rattle.config_text.specs.Table.{Place, absent, optional, path, required}
 use Rattle.config_text.proofs.Addresses.{addr_is, then_some}
-use Rattle.overlay_settings.specs.declared.change.Target.TheVariants as target
-use Rattle.overlay_settings.specs.declared.change.TimedChange.{TimedChange}
+use Rattle.overlay.specs.declared.settings.change.Target.TheVariants as target
+use Rattle.overlay.specs.declared.settings.change.TimedChange.{TimedChange}
 use Rattle.overlay_config.specs.Change.{addr_at, any_number, change_in, changes_in, egress_words, kind_words, mac_at, new_segment_of, port_at, remote_of, target_in, target_of, tunnel_at, vid_at}
 use Rattle.segment_parts.proofs.ChangeRows.{IsTimed, Reads, optional-if, then-if, then-so, value-if}
 use Rattle.segment_parts.proofs.ChangeRows as rows

@@ -4,16 +4,16 @@ use Rattle.std.specs.Prelude.{nat_lt}
 use Rattle.std.specs.List.{AllByRecursion, cons_option, filter_map, flat_map}
 use Rattle.std.specs.declared.alloc.Global.{Global}
 use Rattle.std.proofs.lemmas.List.{drop_at, take_at}
-use Rattle.header_octets.specs.Octets.{IsText}
-use Rattle.header_octets.proofs.OctetsLemmas.{IsText-drop, IsText-take}
-use Rattle.pcap_io.specs.Capture.{opened}
-use Rattle.pcap_io.specs.Next.{Cut, End, Faulty, Whole}
-use Rattle.pcap_io.specs.Reading.{AreRecordTexts, Reading}
-use Rattle.pcap_io.specs.Record.{IsWithinLimits, Record, last_moment}
-use Rattle.pcap_io.specs.RecordText.{record_header_text}
-use Rattle.pcap_io.specs.declared.header.CaptureFault.{CaptureFault}
-use Rattle.pcap_io.specs.declared.style.Style.{Style}
-use Rattle.pcap_io.proofs.Opened.{IsCapture-within, opened-found}
+use Rattle.wire.specs.Octets.{IsText}
+use Rattle.wire.proofs.OctetsLemmas.{IsText-drop, IsText-take}
+use Rattle.pcap.specs.Capture.{opened}
+use Rattle.pcap.specs.Next.{Cut, End, Faulty, Whole}
+use Rattle.pcap.specs.Reading.{AreRecordTexts, Reading}
+use Rattle.pcap.specs.Record.{IsWithinLimits, Record, last_moment}
+use Rattle.pcap.specs.RecordText.{record_header_text}
+use Rattle.pcap.specs.declared.text.header.CaptureFault.{CaptureFault}
+use Rattle.pcap.specs.declared.text.style.Style.{Style}
+use Rattle.pcap.proofs.Opened.{IsCapture-within, opened-found}
 use Rattle.timeline.specs.Events.{IsTapOf, all_events, change_events, events_of, record_events}
 use Rattle.timeline.specs.Faults.{faults_of}
 use Rattle.timeline.specs.Inputs.{Input, inputs, inputs_from, opened_by, opened_captures}

@@ -8,35 +8,35 @@ use Rattle.std.proofs.lemmas.List.{length-set}
 use Rattle.std.proofs.lemmas.List.Sums.{count_by-le-length, length-filter}
 use Rattle.std.proofs.Math.Nat.{min-le_right}
 use Rattle.timeline.proofs.KnownEvents.{all-append}
-use Rattle.frame_view.specs.Frame.{Frame}
-use Rattle.frame_view.specs.declared.reason.Refused.{Refused}
-use Rattle.frame_view.proofs.FirstLemmas.{NothingHolds-from}
-use Rattle.ip_udp_view.specs.Addr.{IsAddr}
-use Rattle.ip_udp_view.specs.declared.addr.Addr.{Addr}
-use Rattle.ip_udp_view.specs.declared.addr.Tunnel.{Tunnel}
-use Rattle.flood_lists.specs.Flood.{Entries, add_faults, is_entry}
-use Rattle.flood_lists.specs.declared.fault.FloodFault.{FloodFault}
-use Rattle.flood_lists.specs.declared.remote.Remote.{Remote as Endpoint}
+use Rattle.wire.specs.Frame.{Frame}
+use Rattle.wire.specs.declared.ether.reason.Refused.{Refused}
+use Rattle.wire.proofs.FirstLemmas.{NothingHolds-from}
+use Rattle.wire.specs.Addr.{IsAddr}
+use Rattle.wire.specs.declared.ip_udp.addr.Addr.{Addr}
+use Rattle.wire.specs.declared.ip_udp.addr.Tunnel.{Tunnel}
+use Rattle.overlay.specs.Flood.{Entries, add_faults, is_entry}
+use Rattle.overlay.specs.declared.flood.fault.FloodFault.{FloodFault}
+use Rattle.overlay.specs.declared.flood.remote.Remote.{Remote as Endpoint}
 use Rattle.filter_db.specs.Table.{Table, is_live, nanoseconds, learn}
 use Rattle.filter_db.specs.declared.place.Place.{Place}
-use Rattle.vlan_ports.proofs.PlacesLemmas.{get-insert_at, get-remove_at}
-use Rattle.underlay.specs.Overlay as overlay
-use Rattle.underlay.specs.Overlay.{flood_at, flood_in, segment_of, with_flood}
-use Rattle.underlay.specs.Settings.{own}
-use Rattle.underlay.specs.declared.segment.Segment.{Segment}
-use Rattle.underlay.specs.declared.settings.Underlay.{Underlay}
-use Rattle.overlay_settings.specs.declared.change.Change.{Change}
-use Rattle.overlay_settings.specs.declared.change.Change.TheVariants.{AddFlood, RemoveFlood, Fix, Unfix, SetAgeing, SetLearning, SetMember, PortUp, PortDown, Flush, AddSegment, RemoveSegment, SetLimit}
-use Rattle.overlay_settings.specs.declared.change.Target.{Target}
-use Rattle.overlay_settings.specs.declared.change.Target.TheVariants as target
-use Rattle.endpoint_state.specs.declared.fault.ChangeFault.{ChangeFault}
-use Rattle.endpoint_state.specs.Change.{at_tunnel, entries_changed, in_segment, is_about, kind_in, place_of, refused}
-use Rattle.endpoint_state.specs.Effect.{Comes, Effect, Goes, ToBridge, ToFlood, ToLimit, ToMembers, ToNothing, ToPort, applied, effect, new_tunnels}
-use Rattle.endpoint_state.specs.Fault.{of_flood}
-use Rattle.endpoint_state.specs.Settings.{BridgeSettings, SegmentSettings, Settings, kind_named, segment_at}
-use Rattle.endpoint_state.specs.State.{State as Bridges, accepted_state, after_change, aged, live_in, table_changed}
-use Rattle.endpoint_state.specs.Step.{after_frame, table_learned}
-use Rattle.endpoint_core.specs.Came.{Came}
+use Rattle.overlay.proofs.PlacesLemmas.{get-insert_at, get-remove_at}
+use Rattle.overlay.specs.Overlay as overlay
+use Rattle.overlay.specs.Overlay.{flood_at, flood_in, segment_of, with_flood}
+use Rattle.overlay.specs.UnderlaySettings.{own}
+use Rattle.overlay.specs.declared.underlay.segment.Segment.{Segment}
+use Rattle.overlay.specs.declared.underlay.settings.Underlay.{Underlay}
+use Rattle.overlay.specs.declared.settings.change.Change.{Change}
+use Rattle.overlay.specs.declared.settings.change.Change.TheVariants.{AddFlood, RemoveFlood, Fix, Unfix, SetAgeing, SetLearning, SetMember, PortUp, PortDown, Flush, AddSegment, RemoveSegment, SetLimit}
+use Rattle.overlay.specs.declared.settings.change.Target.{Target}
+use Rattle.overlay.specs.declared.settings.change.Target.TheVariants as target
+use Rattle.endpoint_core.specs.declared.state.fault.ChangeFault.{ChangeFault}
+use Rattle.endpoint_core.specs.Change.{at_tunnel, entries_changed, in_segment, is_about, kind_in, place_of, refused}
+use Rattle.endpoint_core.specs.Effect.{Comes, Effect, Goes, ToBridge, ToFlood, ToLimit, ToMembers, ToNothing, ToPort, applied, effect, new_tunnels}
+use Rattle.endpoint_core.specs.Fault.{of_flood}
+use Rattle.endpoint_core.specs.Settings.{BridgeSettings, SegmentSettings, Settings, kind_named, segment_at}
+use Rattle.endpoint_core.specs.State.{State as Bridges, accepted_state, after_change, aged, live_in, table_changed}
+use Rattle.endpoint_core.specs.StateStep.{after_frame, table_learned}
+use Rattle.endpoint_core.specs.Arrival.{Arrival}
 use Rattle.endpoint_core.specs.Step.{after_came}
 use Rattle.mesh_delivery.proofs.Keeping.{is-of}
 use Rattle.noninterference.proofs.Lists.{all-filter}
@@ -190,7 +190,7 @@ module _ (n : ℕ) (U : Underlay) where
       by w true = learned-far t from f (segment_at B.settings w) (B.tables w) own (k.tables w)
       by w false = k.tables w
 
-  pub knows-came : (t : ℕ) (B : Bridges) (r : Result Came Refused) → ((x : Came) → r ≡ Ok x → IsFar x.from) → Knows B → Knows (after_came t B r)
+  pub knows-came : (t : ℕ) (B : Bridges) (r : Result Arrival Refused) → ((x : Arrival) → r ≡ Ok x → IsFar x.from) → Knows B → Knows (after_came t B r)
   knows-came t B (Err refused) own k = k
   knows-came t B (Ok x) own k = knows-frame t x.vid x.from x.frame B (own x refl) k
 

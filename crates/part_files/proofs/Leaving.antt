@@ -7,12 +7,12 @@ use Rattle.std.proofs.lemmas.Bool.{false≢true}
 use Rattle.std.proofs.lemmas.List.FromFn.{length-map-range_with_len}
 use Rattle.std.proofs.lemmas.List.Sums.{count_by-le-length, length-filter}
 use Rattle.timeline.proofs.KnownEvents.{all-append}
-use Rattle.frame_view.specs.Address.{is_group}
-use Rattle.frame_view.specs.Frame.{Frame}
-use Rattle.frame_view.specs.declared.reason.Reason.TheVariants.{Horizon, SamePlace, Unreachable}
-use Rattle.ip_udp_view.specs.Addr.{IsAddr}
-use Rattle.flood_lists.specs.Flood.{Entries}
-use Rattle.flood_lists.specs.declared.remote.Remote.{Remote as Endpoint}
+use Rattle.wire.specs.Address.{is_group}
+use Rattle.wire.specs.Frame.{Frame}
+use Rattle.wire.specs.declared.ether.reason.Reason.TheVariants.{Horizon, SamePlace, Unreachable}
+use Rattle.wire.specs.Addr.{IsAddr}
+use Rattle.overlay.specs.Flood.{Entries}
+use Rattle.overlay.specs.declared.flood.remote.Remote.{Remote as Endpoint}
 use Rattle.filter_db.specs.Place.{same_place}
 use Rattle.filter_db.specs.Table.{Table, stands}
 use Rattle.filter_db.specs.declared.place.Place.{Place}

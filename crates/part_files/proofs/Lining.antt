@@ -3,14 +3,14 @@ use Rattle.std.proofs.Common.{◌≡◌, refl, ℕ, suc, ◌+◌, ◌*◌, ◌/�
 use Rattle.std.specs.Prelude.{codes}
 use Rattle.std.specs.Fmt.{decimal}
 use Rattle.std.specs.List.{AllByRecursion}
-use Rattle.header_octets.specs.Octets.{IsText, octet}
-use Rattle.frame_view.specs.Reason as reason
-use Rattle.frame_view.specs.declared.reason.Reason.{Reason}
-use Rattle.ip_udp_view.specs.Addr.{IsAddr}
-use Rattle.ip_udp_view.specs.declared.addr.Addr.{Addr}
-use Rattle.ip_udp_view.specs.declared.addr.Addr.TheVariants.{V4, V6}
-use Rattle.ip_udp_view.specs.declared.addr.Tunnel.{Tunnel}
-use Rattle.ip_udp_view.specs.declared.addr.Tunnel.TheVariants.{Geneve, Vxlan}
+use Rattle.wire.specs.Octets.{IsText, octet}
+use Rattle.wire.specs.Reason as reason
+use Rattle.wire.specs.declared.ether.reason.Reason.{Reason}
+use Rattle.wire.specs.Addr.{IsAddr}
+use Rattle.wire.specs.declared.ip_udp.addr.Addr.{Addr}
+use Rattle.wire.specs.declared.ip_udp.addr.Addr.TheVariants.{V4, V6}
+use Rattle.wire.specs.declared.ip_udp.addr.Tunnel.{Tunnel}
+use Rattle.wire.specs.declared.ip_udp.addr.Tunnel.TheVariants.{Geneve, Vxlan}
 use Rattle.filter_db.specs.declared.place.Place.{Place}
 use Rattle.filter_db.specs.declared.place.Place.TheVariants.{Local, Remote}
 use Rattle.timeline.specs.Words.{source_of, source_word, tap_word}
@@ -20,8 +20,8 @@ use Rattle.timeline.specs.declared.source.Source.TheVariants as sources
 use Rattle.timeline.specs.declared.source.Tap.{Tap}
 use Rattle.timeline.specs.declared.source.Tap.TheVariants.{Port, Underlay}
 use Rattle.timeline.specs.declared.timeline.Cut.{Cut}
-use Rattle.endpoint_state.specs.Fault as fault
-use Rattle.endpoint_state.specs.declared.fault.ChangeFault.{ChangeFault}
+use Rattle.endpoint_core.specs.Fault as fault
+use Rattle.endpoint_core.specs.declared.state.fault.ChangeFault.{ChangeFault}
 use Rattle.endpoint_core.specs.Decision.{Sent}
 use Rattle.endpoint_core.specs.Step.{Answer, Decided, Replied}
 use Rattle.endpoint_core.specs.Text.{addr_text, further_text, grouped, hex_digit, hex_octet, kind_text, outcome_text, outcomes_text, place_text, result_by, sent_text}

@@ -1,7 +1,7 @@
 -- A part that is opened over what its outputs hold.
 use Rattle.std.proofs.Common.{◌≡◌, ◌∙◌, sym, ap, subst, ℕ, ◌+◌, ◌-◌, ◌<◌, ◌≤◌, arith, Bool, true, false, cond, List, [], ◌∷◌, ◌++◌, length, map, filter, Some, None}
 use Rattle.std.specs.List.{AllByRecursion}
-use Rattle.pcap_io.specs.Written.{written_header}
+use Rattle.pcap.specs.Written.{written_header}
 use Rattle.timeline.specs.declared.source.Tap.TheVariants.{Port, Underlay}
 use Rattle.timeline.specs.declared.timeline.Cut.{Cut}
 use Rattle.decision_lines.specs.Lines.{cut_line}

@@ -5,10 +5,10 @@ use Rattle.std.specs.Fmt.{decimal}
 use Rattle.std.proofs.lemmas.Bool.{eqb-false, leb-true}
 use Rattle.std.proofs.lemmas.Fmt.{length-decimal-le}
 use Rattle.line_words.proofs.Decimals.{IsNoDigit, lacks, lacks_decimal, lacks_more, lacks_one}
-use Rattle.frame_view.specs.Reason as reason
-use Rattle.frame_view.specs.declared.reason.Reason.{Reason}
-use Rattle.endpoint_state.specs.Fault as fault
-use Rattle.endpoint_state.specs.declared.fault.ChangeFault.{ChangeFault}
+use Rattle.wire.specs.Reason as reason
+use Rattle.wire.specs.declared.ether.reason.Reason.{Reason}
+use Rattle.endpoint_core.specs.Fault as fault
+use Rattle.endpoint_core.specs.declared.state.fault.ChangeFault.{ChangeFault}
 
 -- a text without a line feed, of so many octets at most
 pub record IsPlain (most : ℕ) (t : List ℕ) : Type 0 where

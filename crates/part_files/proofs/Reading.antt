@@ -3,8 +3,8 @@ use Rattle.std.proofs.Common.{◌≡◌, ◌∙◌, sym, ap, subst, ℕ, ◌+◌
 use Rattle.std.specs.Io.KnownBytes.{Appends}
 use Rattle.std.proofs.lemmas.List.{take_all}
 use Rattle.std.proofs.lemmas.List.FromFn.{length-map-range_with_len}
-use Rattle.pcap_io.specs.Written.{written_header}
-use Rattle.pcap_stream.specs.Sink.{Drain}
+use Rattle.pcap.specs.Written.{written_header}
+use Rattle.pcap.specs.Sink.{Drain}
 use Rattle.timeline.specs.declared.source.Tap.TheVariants.{Port, Underlay}
 use Rattle.timeline.specs.declared.timeline.Cut.{Cut}
 use Rattle.noninterference.proofs.Lists.{at-range}

@@ -1,15 +1,15 @@
 -- Remote endpoints by addresses alone: places, flood lists and changes.
 use Rattle.std.proofs.Common.{◌≤◌, length}
 use Rattle.std.specs.List.{AllByRecursion}
-use Rattle.ip_udp_view.specs.Addr.{IsAddr}
-use Rattle.flood_lists.specs.Flood.{Entries}
-use Rattle.flood_lists.specs.declared.remote.Remote.{Remote as Endpoint}
+use Rattle.wire.specs.Addr.{IsAddr}
+use Rattle.overlay.specs.Flood.{Entries}
+use Rattle.overlay.specs.declared.flood.remote.Remote.{Remote as Endpoint}
 use Rattle.filter_db.specs.declared.place.Place.{Place}
 use Rattle.filter_db.specs.declared.place.Place.TheVariants.{Local, Remote}
-use Rattle.overlay_settings.specs.declared.change.Change.{Change}
-use Rattle.overlay_settings.specs.declared.change.Change.TheVariants.{AddFlood, Fix}
-use Rattle.overlay_settings.specs.declared.change.Target.{Target}
-use Rattle.overlay_settings.specs.declared.change.Target.TheVariants as target
+use Rattle.overlay.specs.declared.settings.change.Change.{Change}
+use Rattle.overlay.specs.declared.settings.change.Change.TheVariants.{AddFlood, Fix}
+use Rattle.overlay.specs.declared.settings.change.Target.{Target}
+use Rattle.overlay.specs.declared.settings.change.Target.TheVariants as target
 
 -- a remote place has an address with as many octets as its family's have
 abbrev pub IsFar : Place → Type 0

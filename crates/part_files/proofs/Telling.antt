@@ -3,10 +3,10 @@ use Rattle.std.proofs.Common.{◌≡◌, ◌∙◌, refl, sym, ap, subst, ℕ, z
 use Rattle.std.specs.Prelude.{codes}
 use Rattle.std.specs.Fmt.{decimal}
 use Rattle.std.specs.List.{AllByRecursion, cons_option, filter_map, zip}
-use Rattle.frame_view.specs.declared.reason.Reason.{Reason}
+use Rattle.wire.specs.declared.ether.reason.Reason.{Reason}
 use Rattle.filter_db.specs.declared.place.Place.{Place}
 use Rattle.filter_db.specs.declared.place.Place.TheVariants.{Local, Remote}
-use Rattle.pcap_io.specs.Record.{last_moment}
+use Rattle.pcap.specs.Record.{last_moment}
 use Rattle.timeline.specs.Words.{source_of, tap_word}
 use Rattle.timeline.specs.declared.event.Event.{Event as Happens}
 use Rattle.timeline.specs.declared.event.Happening.{Happening}
@@ -14,8 +14,8 @@ use Rattle.timeline.specs.declared.event.Happening.TheVariants as happenings
 use Rattle.timeline.specs.declared.source.Tap.{Tap}
 use Rattle.timeline.specs.declared.source.Tap.TheVariants.{Port, Underlay as Under}
 use Rattle.timeline.specs.declared.timeline.Cut.{Cut}
-use Rattle.underlay.specs.declared.settings.Underlay.{Underlay}
-use Rattle.overlay_settings.specs.declared.change.Change.{Change}
+use Rattle.overlay.specs.declared.underlay.settings.Underlay.{Underlay}
+use Rattle.overlay.specs.declared.settings.change.Change.{Change}
 use Rattle.encapsulate.specs.Sender.{IsUnderlay}
 use Rattle.endpoint_core.specs.Decision.{Decision, Sent}
 use Rattle.endpoint_core.specs.Step.{Answer, Decided, Replied, State, after, answers}

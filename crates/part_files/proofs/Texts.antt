@@ -7,10 +7,10 @@ use Rattle.decision_lines.specs.Lines.{cut_line}
 use Rattle.overlay_config.specs.Change.{changes_in}
 use Rattle.overlay_config.specs.Settings.{settings_in}
 use Rattle.overlay_config.proofs.Meets.{texts_meet}
-use Rattle.overlay_settings.specs.Settings.{Settings as Rules}
-use Rattle.overlay_settings.specs.declared.change.Change.{Change}
-use Rattle.overlay_settings.specs.declared.change.TimedChange.{TimedChange}
-use Rattle.endpoint_state.specs.Opened.{settings_told}
+use Rattle.overlay.specs.Settings.{Settings as Rules}
+use Rattle.overlay.specs.declared.settings.change.Change.{Change}
+use Rattle.overlay.specs.declared.settings.change.TimedChange.{TimedChange}
+use Rattle.endpoint_core.specs.Opened.{settings_told}
 use Rattle.endpoint_core.specs.Step.{Answer, answers, opened}
 use Rattle.endpoint_core.specs.Run.{decisions}
 use Rattle.endpoint_core.proofs.Runs.{answers-decisions}

@@ -3,8 +3,8 @@ use Rattle.std.proofs.Common.{◌≡◌, ◌∙◌, refl, sym, ap, subst, ℕ, z
 use Rattle.std.specs.List.{AllByRecursion}
 use Rattle.std.specs.declared.alloc.Global.{Global}
 use Rattle.std.proofs.lemmas.Bool.{eqb-true}
-use Rattle.frame_view.proofs.FirstLemmas.{same_Ok}
-use Rattle.pcap_stream.specs.Sink.{Drain}
+use Rattle.wire.proofs.FirstLemmas.{same_Ok}
+use Rattle.pcap.specs.Sink.{Drain}
 use Rattle.timeline.specs.Timeline.{Timeline, told}
 use Rattle.timeline.specs.declared.fault.TimelineFault.{TimelineFault}
 use Rattle.timeline.specs.declared.timeline.Cut.{Cut}
@@ -13,9 +13,9 @@ use Rattle.overlay_config.specs.Change.{changes_in}
 use Rattle.overlay_config.specs.Fault.{Meaning}
 use Rattle.overlay_config.specs.Settings.{settings_in}
 use Rattle.overlay_config.proofs.Meets.{texts_meet}
-use Rattle.overlay_settings.specs.Settings.{Settings as Rules}
-use Rattle.overlay_settings.specs.declared.change.TimedChange.{TimedChange}
-use Rattle.endpoint_state.specs.Opened.{settings_told}
+use Rattle.overlay.specs.Settings.{Settings as Rules}
+use Rattle.overlay.specs.declared.settings.change.TimedChange.{TimedChange}
+use Rattle.endpoint_core.specs.Opened.{settings_told}
 use Rattle.segment_set.specs.Segments.{Segments}
 use Rattle.capture_run.specs.Among.{by_timeline_among, cuts_among, run_among}
 use Rattle.capture_run.specs.Outputs.{Outputs, outputs}

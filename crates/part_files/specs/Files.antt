@@ -8,16 +8,16 @@
 use Rattle.std.specs.Prelude.{◌≡◌, ◌<◌, ℕ, ◌^◌, List, [], ◌++◌, length, map, slice_index_or, Option, Some, Vec, Result, Ok}
 use Rattle.std.specs.List.{AllByRecursion}
 use Rattle.std.specs.declared.alloc.Global.{Global}
-use Rattle.header_octets.specs.Octets.{IsText}
-use Rattle.pcap_io.specs.Written.{written_header}
-use Rattle.pcap_stream.specs.Sink.{Drain}
-use Rattle.pcap_stream.specs.Source.{Stream}
+use Rattle.wire.specs.Octets.{IsText}
+use Rattle.pcap.specs.Written.{written_header}
+use Rattle.pcap.specs.Sink.{Drain}
+use Rattle.pcap.specs.Source.{Stream}
 use Rattle.line_stream.specs.Lines.{Reader}
 use Rattle.timeline.specs.Timeline.{Timeline, told}
 use Rattle.timeline.specs.declared.timeline.Cut.{Cut}
 use Rattle.overlay_config.specs.Change.{changes_in}
 use Rattle.overlay_config.specs.Settings.{settings_in}
-use Rattle.overlay_settings.specs.declared.change.TimedChange.{TimedChange}
+use Rattle.overlay.specs.declared.settings.change.TimedChange.{TimedChange}
 use Rattle.segment_set.specs.Segments.{Segments}
 use Rattle.stream_run.specs.Over.{IsRunOverAmong}
 use Rattle.stream_run.specs.Stage.{Drains}

@@ -3,7 +3,7 @@ ghost use Rattle.std.specs.Prelude.{◌≡◌, ℕ, List, length, Option, Vec as
 ghost use Rattle.std.specs.List.{AllByRecursion};
 ghost use Rattle.std.specs.declared.alloc.Global.{Global as AGlobal};
 ghost use Rattle.line_stream.specs.Lines.{Reader};
-ghost use Rattle.pcap_stream.specs.Sink.{Drain};
+ghost use Rattle.pcap.specs.Sink.{Drain};
 ghost use Rattle.overlay_config.specs.Change.{changes_in};
 ghost use Rattle.overlay_config.specs.Settings.{settings_in};
 ghost use Rattle.capture_run.specs.Outputs.{Outputs};

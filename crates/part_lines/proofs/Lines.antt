@@ -6,13 +6,13 @@ use Rattle.std.specs.List.{AllByRecursion}
 use Rattle.std.proofs.Math.Seq.{take-append_seam, get_or-append_seam}
 use Rattle.std.proofs.lemmas.Bool.{eq-eqb, cond-true, cond-false}
 use Rattle.std.proofs.lemmas.List.{length_push}
-use Rattle.header_octets.specs.Octets.{is_same}
-use Rattle.header_octets.proofs.OctetsLemmas.{is_same-true}
-use Rattle.frame_view.specs.Reason as reason
-use Rattle.frame_view.specs.declared.reason.Reason.{Reason}
-use Rattle.endpoint_state.specs.Fault as fault
-use Rattle.endpoint_state.specs.declared.fault.ChangeFault.{ChangeFault}
-use Rattle.endpoint_state.specs.declared.fault.ChangeFault.TheVariants.{NoSegment, NoPort, AlreadyThere, NotThere, FloodFull, TableFull, GroupAddress, OutOfRange, NoFamily, OwnAddress, SegmentThere, PoolFull, SegmentsFull, NoTunnel}
+use Rattle.wire.specs.Octets.{is_same}
+use Rattle.wire.proofs.OctetsLemmas.{is_same-true}
+use Rattle.wire.specs.Reason as reason
+use Rattle.wire.specs.declared.ether.reason.Reason.{Reason}
+use Rattle.endpoint_core.specs.Fault as fault
+use Rattle.endpoint_core.specs.declared.state.fault.ChangeFault.{ChangeFault}
+use Rattle.endpoint_core.specs.declared.state.fault.ChangeFault.TheVariants.{NoSegment, NoPort, AlreadyThere, NotThere, FloodFull, TableFull, GroupAddress, OutOfRange, NoFamily, OwnAddress, SegmentThere, PoolFull, SegmentsFull, NoTunnel}
 use Rattle.endpoint_core.specs.Decision.{Sent}
 use Rattle.endpoint_core.specs.Text.{result_by, result_of}
 use Rattle.timeline.specs.Words.{source_of, source_word, tap_word}

@@ -8,15 +8,15 @@ use Rattle.std.proofs.lemmas.Bool.{cond-true}
 use Rattle.std.proofs.lemmas.Bool.Decides.{nat_tests}
 use Rattle.std.proofs.lemmas.Fmt.{decimal_nonempty}
 use Rattle.std.proofs.lemmas.List.{append-nil}
-use Rattle.header_octets.specs.Octets.{octet}
-use Rattle.frame_view.specs.Reason.{number_of, name_of}
-use Rattle.frame_view.specs.declared.reason.Reason.{Reason}
-use Rattle.frame_view.specs.declared.reason.Reason.TheVariants.{TooLong, Sliced, Runt, PortDown, BadSource, Reserved, CutTag, BadVid, FrameType, NoSegment, NotMember, NotIp, BadIp, BadIpSum, BadOuterSource, NotForUs, Fragment, NotUdp, BadUdp, NotTunnel, ZeroSum, BadUdpSum, ShortTunnel, NoVniFlag, BadVersion, Control, NotEthernet, BadOptions, CriticalOption, UnknownVni, WrongGroup, UnknownPeer, InnerRunt, InnerTag, SamePlace, Horizon, Unreachable, NoOutlet, TooBig, InnerTagOut}
-use Rattle.ip_udp_view.specs.Addr.{IsAddr}
-use Rattle.ip_udp_view.specs.declared.addr.Addr.{Addr}
-use Rattle.ip_udp_view.specs.declared.addr.Addr.TheVariants.{V4, V6}
-use Rattle.ip_udp_view.specs.declared.addr.Tunnel.{Tunnel}
-use Rattle.ip_udp_view.specs.declared.addr.Tunnel.TheVariants.{Vxlan, Geneve}
+use Rattle.wire.specs.Octets.{octet}
+use Rattle.wire.specs.Reason.{number_of, name_of}
+use Rattle.wire.specs.declared.ether.reason.Reason.{Reason}
+use Rattle.wire.specs.declared.ether.reason.Reason.TheVariants.{TooLong, Sliced, Runt, PortDown, BadSource, Reserved, CutTag, BadVid, FrameType, NoSegment, NotMember, NotIp, BadIp, BadIpSum, BadOuterSource, NotForUs, Fragment, NotUdp, BadUdp, NotTunnel, ZeroSum, BadUdpSum, ShortTunnel, NoVniFlag, BadVersion, Control, NotEthernet, BadOptions, CriticalOption, UnknownVni, WrongGroup, UnknownPeer, InnerRunt, InnerTag, SamePlace, Horizon, Unreachable, NoOutlet, TooBig, InnerTagOut}
+use Rattle.wire.specs.Addr.{IsAddr}
+use Rattle.wire.specs.declared.ip_udp.addr.Addr.{Addr}
+use Rattle.wire.specs.declared.ip_udp.addr.Addr.TheVariants.{V4, V6}
+use Rattle.wire.specs.declared.ip_udp.addr.Tunnel.{Tunnel}
+use Rattle.wire.specs.declared.ip_udp.addr.Tunnel.TheVariants.{Vxlan, Geneve}
 use Rattle.filter_db.specs.declared.place.Place.{Place}
 use Rattle.filter_db.specs.declared.place.Place.TheVariants.{Local, Remote}
 use Rattle.endpoint_core.specs.Decision.{Sent}

@@ -1,7 +1,7 @@
 -- What a decision line tells a merge: which event it is of, and where that was sent. It states no standard.
 use Rattle.std.specs.Prelude.{ℕ, ◌-◌, ◌==◌, nat_le, Bool, List, length, take, slice_index, codes}
 use Rattle.std.specs.Prelude.{count_by, if◌then◌else◌, Option, Some, None, Result, Ok, Err}
-use Rattle.header_octets.specs.Octets.{is_same}
+use Rattle.wire.specs.Octets.{is_same}
 use Rattle.line_words.specs.Words.{word, behind}
 use Rattle.line_words.specs.Numbers.{number_of}
 use Rattle.part_lines.specs.Sent.{has_places, sent_in}

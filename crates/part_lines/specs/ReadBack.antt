@@ -1,11 +1,11 @@
 -- The law of reading: what is written in a decision line is what is read from it. It states no standard.
 use Rattle.std.specs.Prelude.{◌≡◌, ◌<◌, ℕ, ◌^◌, List, [], length, IfOk, Option, Some, None, Result, Ok, Err}
 use Rattle.std.specs.List.{AllByRecursion, filter_map}
-use Rattle.frame_view.specs.declared.reason.Reason.{Reason}
-use Rattle.ip_udp_view.specs.Addr.{IsAddr}
+use Rattle.wire.specs.declared.ether.reason.Reason.{Reason}
+use Rattle.wire.specs.Addr.{IsAddr}
 use Rattle.filter_db.specs.declared.place.Place.{Place}
 use Rattle.filter_db.specs.declared.place.Place.TheVariants.{Local, Remote}
-use Rattle.endpoint_state.specs.declared.fault.ChangeFault.{ChangeFault}
+use Rattle.endpoint_core.specs.declared.state.fault.ChangeFault.{ChangeFault}
 use Rattle.endpoint_core.specs.Decision.{Sent, Decision}
 use Rattle.endpoint_core.specs.Step.{Decided, Replied}
 use Rattle.timeline.specs.Words.{source_of}

@@ -12,6 +12,11 @@
 //! where something left; from that of a change the number and no place; that of a cut capture is told as such
 //! ([`decisions_read_back`], [`replies_read_back`], [`cuts_read_back`]). That the fields between number and result, and the
 //! words of a result without a `=`, are those of a run isn't looked at.
+//!
+//! Proved besides:
+//! - A line tells exactly the facts of the definition, or the first fault of NoEnd, Number, Fields and Place:
+//!   `read_line`. It's the same where it is told by the place at which its result begins: `find_parts`,
+//!   `Places::behind`.
 #![tactic(auto)]
 
 mod facts;

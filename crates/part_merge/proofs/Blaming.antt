@@ -4,13 +4,13 @@ use Rattle.std.proofs.lemmas.List.{get_or-map, get_or-set_same, get_or_default, 
 use Rattle.line_stream.specs.Lines.{IsFetched, Reader}
 use Rattle.line_stream.specs.declared.fault.LinesFault.{LinesFault}
 use Rattle.line_stream.specs.declared.fault.LinesFault.TheVariants as lines
-use Rattle.pcap_io.specs.declared.style.Style.{Style}
-use Rattle.pcap_stream.specs.Counts.{GoesOnBy}
-use Rattle.pcap_stream.specs.Sink.{Drain, IsPut, Writes}
-use Rattle.pcap_stream.specs.Source.{New, Open, Ended, Failed, IsFilled, IsFilledFrom, IsOpened, MatchRead as MatchSource, ReadsNext, Standing, Stream, answer}
-use Rattle.pcap_stream.specs.Supply.{GivesUp}
-use Rattle.pcap_stream.specs.declared.fault.SourceFault.{SourceFault}
-use Rattle.pcap_stream.specs.declared.fault.SourceFault.TheVariants as source
+use Rattle.pcap.specs.declared.text.style.Style.{Style}
+use Rattle.pcap.specs.Counts.{GoesOnBy}
+use Rattle.pcap.specs.Sink.{Drain, IsPut, Writes}
+use Rattle.pcap.specs.Source.{New, Open, Ended, Failed, IsFilled, IsFilledFrom, IsOpened, MatchRead as MatchSource, ReadsNext, Standing, Stream, answer}
+use Rattle.pcap.specs.Supply.{GivesUp}
+use Rattle.pcap.specs.declared.stream.fault.SourceFault.{SourceFault}
+use Rattle.pcap.specs.declared.stream.fault.SourceFault.TheVariants as source
 use Rattle.timeline.specs.declared.source.Tap.{Tap}
 use Rattle.timeline.specs.declared.source.Tap.TheVariants.{Port, Underlay}
 use Rattle.part_merge.specs.Blame.{BlamesNoRead, BlamesNoWrite, CaptureStops, CapturesRead, CopyReads, CopyWrites, Health, Healths, LinesRead, LinesWrite, MatchRead, MatchWrite, OutputStops, PartReads, PartStops, ReadsWith, SinkStops, SinkWrites, SourceBack, SourceReads, SourceStops, UnlessBlamed, UnlessLines, PartOpens, WritesWith, captures_health, has_given_up, is_read, outputs_health, part_health, sink_health, source_health}

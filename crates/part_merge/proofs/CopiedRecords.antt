@@ -1,7 +1,7 @@
 -- The records of an event, one after another.
 use Rattle.std.proofs.Common.{◌≡◌, ◌∙◌, refl, sym, ap, subst, ℕ, List, [], ◌∷◌, ◌++◌, length, append_assoc, append-nil}
-use Rattle.pcap_stream.specs.Sink.{Drain}
-use Rattle.pcap_stream.specs.Source.{Stream}
+use Rattle.pcap.specs.Sink.{Drain}
+use Rattle.pcap.specs.Source.{Stream}
 use Rattle.timeline.specs.declared.source.Tap.{Tap}
 use Rattle.part_merge.specs.Left.{AreAdded, AreLeft, IsTap, IsWritten, of_tap, IsAdded}
 use Rattle.part_merge.specs.Merged.{at_tap, records_at}

@@ -1,19 +1,19 @@
 -- What the next call of a source gives where a run wrote what it has left.
 use Rattle.std.proofs.Common.{◌≡◌, ◌∙◌, refl, ap, subst, ℕ, ◌/◌, ◌%◌, List, [], ◌++◌, length, drop, arith, Option, Some, None, IfSome, Bool, true, false, Result, Ok, Err, IsErr, MatchBool}
-use Rattle.pcap_io.specs.Header.{header_in, style_by_magic, style_of}
-use Rattle.pcap_io.specs.Next.{Whole, Next, Another, Ends, next_of}
-use Rattle.pcap_io.specs.Record.{Record}
-use Rattle.pcap_io.specs.RecordText.{IsRecordText}
-use Rattle.pcap_io.specs.Written.{whole_frame, written_header, written_record, written_style}
-use Rattle.pcap_io.specs.declared.header.CaptureFault.{CaptureFault}
-use Rattle.pcap_io.specs.declared.style.Style.{Style}
-use Rattle.pcap_io.proofs.Fronts.{style_of-front}
-use Rattle.pcap_io.proofs.Grammar.{next-ends, next-record}
-use Rattle.pcap_stream.specs.Source.{Stream, Open, Ended, IsFilled, IsFilledFrom, IsOpened, MatchRead, ReadsHeader, ReadsNext, after_header, after_next, answer, left_by_next}
-use Rattle.pcap_stream.specs.Supply.{GivesUp}
-use Rattle.pcap_stream.specs.declared.fault.SourceFault.{SourceFault}
-use Rattle.pcap_stream.specs.declared.fault.SourceFault.TheVariants as fault
-use Rattle.pcap_stream.specs.Sink.{Drain, IsPut, Writes}
+use Rattle.pcap.specs.Header.{header_in, style_by_magic, style_of}
+use Rattle.pcap.specs.Next.{Whole, Next, Another, Ends, next_of}
+use Rattle.pcap.specs.Record.{Record}
+use Rattle.pcap.specs.RecordText.{IsRecordText}
+use Rattle.pcap.specs.Written.{whole_frame, written_header, written_record, written_style}
+use Rattle.pcap.specs.declared.text.header.CaptureFault.{CaptureFault}
+use Rattle.pcap.specs.declared.text.style.Style.{Style}
+use Rattle.pcap.proofs.Fronts.{style_of-front}
+use Rattle.pcap.proofs.Grammar.{next-ends, next-record}
+use Rattle.pcap.specs.Source.{Stream, Open, Ended, IsFilled, IsFilledFrom, IsOpened, MatchRead, ReadsHeader, ReadsNext, after_header, after_next, answer, left_by_next}
+use Rattle.pcap.specs.Supply.{GivesUp}
+use Rattle.pcap.specs.declared.stream.fault.SourceFault.{SourceFault}
+use Rattle.pcap.specs.declared.stream.fault.SourceFault.TheVariants as fault
+use Rattle.pcap.specs.Sink.{Drain, IsPut, Writes}
 use Rattle.part_merge.specs.Copied.{IsDeviceStop, stop_by}
 use Rattle.part_merge.specs.Left.{IsAdded, IsDeviceFault, IsLeft, IsWritten}
 use Rattle.part_merge.specs.Moved.{stopped_at}

@@ -5,7 +5,7 @@ use Rattle.std.proofs.lemmas.Bool.{cases_eq}
 use Rattle.std.proofs.lemmas.List.{get_or-set_other, get_or-set_same, get_or_default}
 use Rattle.std.specs.Io.KnownBytes.{Keeps}
 use Rattle.std.specs.Prelude.{OnOk}
-use Rattle.pcap_stream.specs.Sink.{Drain, HandsOn, IsHandedOn}
+use Rattle.pcap.specs.Sink.{Drain, HandsOn, IsHandedOn}
 use Rattle.timeline.specs.declared.source.Tap.{Tap}
 use Rattle.timeline.specs.declared.source.Tap.TheVariants.{Port, Underlay}
 use Rattle.part_merge.specs.Left.{AreAdded, AreKept, IsTap, UnlessDevice, of_tap}

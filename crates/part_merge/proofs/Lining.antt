@@ -5,7 +5,7 @@ use Rattle.std.specs.List.{concat}
 use Rattle.line_stream.specs.Lines.{IsFetched, IsLong, Reader, behind_line, first_line}
 use Rattle.line_stream.specs.declared.fault.LinesFault.{LinesFault}
 use Rattle.line_stream.specs.declared.fault.LinesFault.TheVariants as lines
-use Rattle.pcap_stream.specs.Source.{Stream}
+use Rattle.pcap.specs.Source.{Stream}
 use Rattle.part_lines.specs.Facts.{facts_of}
 use Rattle.part_merge.specs.Coming.{AreTexts, ComesNext, Holds, IsLine, OpenPart, StandBehind, coming_by, coming_in, is_cut, is_over, next_coming, next_line, next_rest, stopped_by}
 use Rattle.part_merge.specs.Left.{AreLeft, IsDeviceFault}

@@ -5,7 +5,7 @@ use Rattle.std.proofs.lemmas.Bool.{eqb-true, eqb-false}
 use Rattle.std.proofs.lemmas.List.{get_or-set_same, get_or-set_other, length-set, map-append}
 use Rattle.std.specs.List.{range_with_len}
 use Rattle.std.specs.Io.KnownBytes.{Appends}
-use Rattle.pcap_stream.specs.Sink.{Drain}
+use Rattle.pcap.specs.Sink.{Drain}
 use Rattle.timeline.specs.declared.source.Tap.{Tap}
 use Rattle.part_merge.specs.Coming.{Holds, OpenPart, next_coming}
 use Rattle.part_merge.specs.Firsts.{IsFirst, IsLater, IsNone, IsNoSooner}

@@ -3,8 +3,8 @@ use Rattle.std.proofs.Common.{◌≡◌, ◌≢◌, refl, sym, subst, ℕ, ◌-�
 use Rattle.std.proofs.KnownBytes.{Appends-nil, Appends-trans}
 use Rattle.std.proofs.lemmas.Bool.{eqb-true, eqb-false, eq-eqb}
 use Rattle.std.proofs.lemmas.List.{get_or-set_same, get_or-set_other, get_or_default, length-set}
-use Rattle.pcap_stream.specs.Sink.{Drain}
-use Rattle.pcap_stream.specs.Source.{Stream}
+use Rattle.pcap.specs.Sink.{Drain}
+use Rattle.pcap.specs.Source.{Stream}
 use Rattle.timeline.specs.declared.source.Tap.{Tap}
 use Rattle.timeline.specs.declared.source.Tap.TheVariants.{Port, Underlay}
 use Rattle.part_merge.specs.Left.{AreAdded, AreLeft, IsAdded, IsLeft, IsTap, UnlessDevice, of_tap}

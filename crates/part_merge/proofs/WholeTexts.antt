@@ -6,8 +6,8 @@ use Rattle.std.proofs.lemmas.List.FromFn.{get_or-map-range_with_len}
 use Rattle.std.specs.Io.KnownBytes.{Appends}
 use Rattle.std.specs.List.{concat, flat_map, range_with_len}
 use Rattle.std.proofs.lemmas.List.Concat.{flat_map-cons}
-use Rattle.pcap_io.specs.Written.{written_header}
-use Rattle.pcap_stream.specs.Sink.{Drain}
+use Rattle.pcap.specs.Written.{written_header}
+use Rattle.pcap.specs.Sink.{Drain}
 use Rattle.timeline.specs.declared.source.Tap.TheVariants.{Port, Underlay}
 use Rattle.timeline.specs.declared.timeline.Cut.{Cut}
 use Rattle.decision_lines.specs.Lines.{cut_line}

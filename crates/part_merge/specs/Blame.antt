@@ -3,12 +3,12 @@
 --     WritesWith      no output failed, or the one that the answer blames
 use Rattle.std.specs.Prelude.{◌≡◌, ◌⊎◌, ◌<◌, ⊤, ℕ, Bool, false, true, List, length, map, slice_index_or, Result, Ok, Err}
 use Rattle.line_stream.specs.Lines.{Reader}
-use Rattle.pcap_stream.specs.Counts.{GoesOnBy}
-use Rattle.pcap_stream.specs.Sink.{Drain}
-use Rattle.pcap_stream.specs.Source.{New, Open, Ended, Failed, Standing, Stream}
-use Rattle.pcap_stream.specs.Supply.{GivesUp}
-use Rattle.pcap_stream.specs.declared.fault.SourceFault.{SourceFault}
-use Rattle.pcap_stream.specs.declared.fault.SourceFault.TheVariants as source
+use Rattle.pcap.specs.Counts.{GoesOnBy}
+use Rattle.pcap.specs.Sink.{Drain}
+use Rattle.pcap.specs.Source.{New, Open, Ended, Failed, Standing, Stream}
+use Rattle.pcap.specs.Supply.{GivesUp}
+use Rattle.pcap.specs.declared.stream.fault.SourceFault.{SourceFault}
+use Rattle.pcap.specs.declared.stream.fault.SourceFault.TheVariants as source
 use Rattle.timeline.specs.declared.source.Tap.{Tap}
 use Rattle.part_merge.specs.Coming.{OpenPart}
 use Rattle.part_merge.specs.Left.{IsTap, of_tap}

@@ -7,7 +7,7 @@ use Rattle.std.specs.List.{AllByRecursion, concat}
 use Rattle.line_stream.specs.Lines.{Reader, longest_line}
 use Rattle.line_stream.specs.declared.fault.LinesFault.{LinesFault}
 use Rattle.line_stream.specs.declared.fault.LinesFault.TheVariants as lines
-use Rattle.pcap_stream.specs.Source.{Stream}
+use Rattle.pcap.specs.Source.{Stream}
 use Rattle.part_lines.specs.Facts.{facts_of}
 use Rattle.part_lines.specs.declared.facts.LineFacts.{LineFacts}
 use Rattle.part_lines.specs.declared.facts.LineFacts.TheVariants as told

@@ -1,10 +1,10 @@
 -- What comes of a record that is copied; it serves the contracts of the merge's parts.
 use Rattle.std.specs.Prelude.{◌≡◌, ◌≢◌, ⊤, ◌⊎◌, ℕ, true, List, length, IfSome, IsSome, None, Result, Ok, Err}
-use Rattle.pcap_io.specs.Record.{Record}
-use Rattle.pcap_stream.specs.Sink.{Drain}
-use Rattle.pcap_stream.specs.Source.{Stream, answer, ends_cut, lent}
-use Rattle.pcap_stream.specs.declared.fault.SourceFault.{SourceFault}
-use Rattle.pcap_stream.specs.declared.fault.SourceFault.TheVariants as source
+use Rattle.pcap.specs.Record.{Record}
+use Rattle.pcap.specs.Sink.{Drain}
+use Rattle.pcap.specs.Source.{Stream, answer, ends_cut, lent}
+use Rattle.pcap.specs.declared.stream.fault.SourceFault.{SourceFault}
+use Rattle.pcap.specs.declared.stream.fault.SourceFault.TheVariants as source
 use Rattle.part_merge.specs.Left.{IsAdded, IsLeft}
 use Rattle.part_merge.specs.declared.capture.Stop.{Stop}
 use Rattle.part_merge.specs.declared.capture.Stop.TheVariants as stops

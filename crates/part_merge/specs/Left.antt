@@ -6,10 +6,10 @@
 --     AreKept      each holds what it held
 use Rattle.std.specs.Prelude.{◌≡◌, ◌<◌, ◌≤◌, ◌-◌, ⊤, ℕ, List, length, slice_index_or, Option, Some, Result, Ok, Err}
 use Rattle.std.specs.Io.KnownBytes.{Appends, Keeps}
-use Rattle.pcap_io.specs.Record.{Record, last_moment, longest}
-use Rattle.pcap_io.specs.Written.{whole_frame, written_record, written_style}
-use Rattle.pcap_stream.specs.Sink.{Drain}
-use Rattle.pcap_stream.specs.Source.{Open, Stream}
+use Rattle.pcap.specs.Record.{Record, last_moment, longest}
+use Rattle.pcap.specs.Written.{whole_frame, written_record, written_style}
+use Rattle.pcap.specs.Sink.{Drain}
+use Rattle.pcap.specs.Source.{Open, Stream}
 use Rattle.timeline.specs.declared.source.Tap.{Tap}
 use Rattle.timeline.specs.declared.source.Tap.TheVariants.{Port, Underlay}
 use Rattle.part_merge.specs.declared.fault.MergeFault.{MergeFault}

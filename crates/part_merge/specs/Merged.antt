@@ -4,7 +4,7 @@
 --     merged      the pieces of several parts, in order of their numbers
 use Rattle.std.specs.Prelude.{◌<◌, ℕ, ◌==◌, nat_lt, Bool, false, true, if◌then◌else◌, List, [], ◌∷◌, ◌++◌, map}
 use Rattle.std.specs.List.{flat_map, range_with_len}
-use Rattle.pcap_io.specs.Written.{written_header}
+use Rattle.pcap.specs.Written.{written_header}
 use Rattle.timeline.specs.declared.source.Tap.{Tap}
 use Rattle.timeline.specs.declared.source.Tap.TheVariants.{Port, Underlay}
 use Rattle.timeline.specs.declared.timeline.Cut.{Cut}

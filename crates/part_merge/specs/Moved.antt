@@ -1,8 +1,8 @@
 -- What comes of the records of an event; it serves the contracts of the merge's parts.
 use Rattle.std.specs.Prelude.{ℕ, List, map, Result, Ok, Err}
 use Rattle.std.specs.List.{AllByRecursion}
-use Rattle.pcap_stream.specs.Sink.{Drain}
-use Rattle.pcap_stream.specs.Source.{Stream}
+use Rattle.pcap.specs.Sink.{Drain}
+use Rattle.pcap.specs.Source.{Stream}
 use Rattle.timeline.specs.declared.source.Tap.{Tap}
 use Rattle.part_merge.specs.Left.{AreAdded, AreLeft, IsDeviceFault, IsTap, IsWritten}
 use Rattle.part_merge.specs.declared.capture.Stop.{Stop}

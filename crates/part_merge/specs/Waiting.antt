@@ -3,8 +3,8 @@
 --     TakesRead      to copy the next record of a capture takes a read
 --     IsOutAtRead      where a read that may wait failed, all was out when it was made
 use Rattle.std.specs.Prelude.{◌≡◌, ◌<◌, ⊤, ℕ, Bool, true, false, List, [], length, slice_index_or, Result, Ok, Err}
-use Rattle.pcap_stream.specs.Sink.{Drain}
-use Rattle.pcap_stream.specs.Source.{Stream, holds_next}
+use Rattle.pcap.specs.Sink.{Drain}
+use Rattle.pcap.specs.Source.{Stream, holds_next}
 use Rattle.timeline.specs.declared.source.Tap.{Tap}
 use Rattle.part_merge.specs.Blame.{MatchRead}
 use Rattle.part_merge.specs.Left.{IsTap, of_tap}

@@ -4,7 +4,7 @@
 use Rattle.std.specs.Prelude.{◌≡◌, ◌<◌, ◌==◌, ◌&&◌, nat_lt, if◌then◌else◌, ℕ, List, []}
 use Rattle.std.specs.Prelude.{◌∷◌, length, map, slice_index_or, slice_set, Option, Result}
 use Rattle.std.specs.Io.KnownBytes.{Appends}
-use Rattle.pcap_stream.specs.Sink.{Drain}
+use Rattle.pcap.specs.Sink.{Drain}
 use Rattle.timeline.specs.declared.timeline.Cut.{Cut}
 use Rattle.decision_lines.specs.Lines.{cut_line}
 use Rattle.capture_run.specs.Outputs.{Outputs}

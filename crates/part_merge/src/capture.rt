@@ -1,14 +1,14 @@
 //! A capture of a part.
 ghost use Rattle.std.specs.Prelude.{◌≡◌, ◌++◌, ℕ, List, [], Some, false};
-ghost use Rattle.pcap_io.specs.Written.{written_header};
-ghost use Rattle.pcap_stream.specs.Source.{New, holds_next};
+ghost use Rattle.pcap.specs.Written.{written_header};
+ghost use Rattle.pcap.specs.Source.{New, holds_next};
 ghost use Rattle.part_merge.specs.Blame.{CopyReads, CopyWrites, OpenReads};
 ghost use Rattle.part_merge.specs.Copied.{Copies, EndsWith, Opens, TellsEnd, TellsStop};
 ghost use Rattle.part_merge.specs.Left.{IsLeft, IsWritten};
 ghost use Rattle.part_merge.specs.Waiting.{AtRead};
 
 use crate::fault::RecordsFault;
-use pcap_stream::{Input, Output, Sink, Source, SourceFault};
+use pcap::stream::{Input, Output, Sink, Source, SourceFault};
 use std::marker::Model;
 
 /// Why a record isn't copied.
@@ -30,7 +30,7 @@ pub struct Capture<R: Input> {
 
 impl<R: Input> Model for Capture<R> {
     ghost use Rattle.std.specs.Prelude.{◌≢◌};
-    ghost use Rattle.pcap_stream.specs.Source.{New, Stream};
+    ghost use Rattle.pcap.specs.Source.{New, Stream};
 
     ghost Value = { Stream };
 

@@ -3,7 +3,7 @@ ghost use Rattle.std.specs.Prelude.{Some};
 ghost use Rattle.part_merge.specs.Words.{target_word};
 
 use part_lines::LineFault;
-use pcap_stream::SourceFault;
+use pcap::stream::SourceFault;
 use std::fmt;
 use thiserror::Error;
 use timeline::Tap;

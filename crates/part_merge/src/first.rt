@@ -5,7 +5,7 @@ ghost use Rattle.part_merge.specs.Firsts.{FindsFirst};
 
 use crate::coming::Coming;
 use crate::part::Part;
-use pcap_stream::Input;
+use pcap::stream::Input;
 
 /// The event that comes first: the place of its part, and its number.
 #[derive(Clone, Copy)]

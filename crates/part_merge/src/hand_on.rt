@@ -9,13 +9,13 @@
 //! it was read ahead whole. So whenever a merge waits, all that was merged stands outside.
 ghost use Rattle.std.specs.Prelude.{◌≡◌, ℕ, List, [], OnOk, true};
 ghost use Rattle.std.specs.Io.KnownBytes.{Keeps};
-ghost use Rattle.pcap_stream.specs.Sink.{Drain};
+ghost use Rattle.pcap.specs.Sink.{Drain};
 ghost use Rattle.part_merge.specs.Blame.{BlamesNoRead, CapturesWrite, LinesWrite, WritesWith};
 ghost use Rattle.part_merge.specs.Left.{AreKept, UnlessDevice};
 ghost use Rattle.part_merge.specs.Waiting.{AllOut, CapturesOut, PortsOut};
 
 use crate::fault::{MergeFault, Target};
-use pcap_stream::{Output, Sink};
+use pcap::stream::{Output, Sink};
 use timeline::Tap;
 
 /// How many ports a merge has at most.

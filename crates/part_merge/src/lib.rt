@@ -14,6 +14,24 @@
 //! A device is blamed only where it failed. Where reads of parts may wait, no output holds anything back where one fails, and so
 //! while one waits. That any other fault of a part comes only where the part is wrong in this way isn't proved.
 //!
+//! Proved of a merge (`merge_streams`, `Part::open`, `Capture::open`):
+//! - Whatever the parts hold: at `Ok` no line of theirs is left, and the lines that were written are those of events
+//!   numbered 1, 2 and so on, each number once, and behind them those of cut captures: `merge_streams`.
+//! - Whatever they hold, a device is blamed only where it failed. Where `merge_streams` blames a read of a part, the
+//!   input of its lines failed once, or the source of one of its captures gave up, at a failed read or with no reads
+//!   left, unless it had before.
+//! - Where it blames a write, that output failed once, or took nothing, unless its sink had given up before.
+//! - Where `Part::open` blames a read of its part, the input of its lines failed once, and it never blames a write;
+//!   where `Capture::open` does, its input failed once or no reads are left.
+//! - At every other answer no input and no output failed.
+//! - Where a merge stops at a failed read of a part, and reads may wait (`may_wait` of `merge_streams`), no output
+//!   holds anything back (`waits`, by `IsOutAtRead`), whatever the parts hold: before each read of a capture or of
+//!   lines that weren't read ahead all goes on. A merge learns nothing of a read before it answers, and does nothing
+//!   between the two; so what stands while a read waits is what stands where it fails.
+//! - For a read all goes on just where reads may wait and the record that is copied, or the line that comes, wasn't
+//!   read ahead whole (`may_wait_for`, `may_wait_for_line`), and at the end once for each part: so not before each
+//!   record of a pipe that runs full.
+//!
 //! Why it is so: a whole run numbers its events from 1 on, so a merge tells the first number that no part has. Where the last
 //! events are missing no number tells so; the count in `shard.txt` does. A record is written as a run writes it, little-endian
 //! and in nanoseconds, also where its capture is of another style; one that holds only a front of its frame is a fault. Each

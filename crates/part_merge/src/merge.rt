@@ -2,7 +2,7 @@
 ghost use Rattle.std.specs.Prelude.{◌≡◌, ◌≤◌, ◌<◌, ℕ, List, OnErr, OnOk, length, slice_index_or, true};
 ghost use Rattle.std.specs.Io.KnownBytes.{Appends};
 ghost use Rattle.std.specs.List.{concat};
-ghost use Rattle.pcap_io.specs.Written.{written_header};
+ghost use Rattle.pcap.specs.Written.{written_header};
 ghost use Rattle.timeline.specs.declared.timeline.Cut.{Cut};
 ghost use Rattle.part_merge.specs.Blame.{BlamesNoRead, BlamesNoWrite, CapturesWrite, LinesWrite, ReadsWith, WritesWith};
 ghost use Rattle.part_merge.specs.Coming.{OpenPart};
@@ -17,7 +17,7 @@ use crate::fault::{MergeFault, PartFault, Target};
 use crate::first::find_first;
 use crate::hand_on::{hand_on_before, hand_on_captures_before};
 use crate::part::Part;
-use pcap_stream::{Input, Output, Sink};
+use pcap::stream::{Input, Output, Sink};
 use timeline::Tap;
 
 /// How many octets the lines of a run's cut captures have at most: 256 lines of 30.

@@ -25,7 +25,7 @@ use crate::hand_on::{hand_on_captures_before, hand_on_lines_before};
 use crate::records::{Captures, copy_all, end_captures};
 use line_stream::Lines;
 use part_lines::{LineFacts, Places, read_line};
-use pcap_stream::{Input, Output, Sink};
+use pcap::stream::{Input, Output, Sink};
 use std::marker::Model;
 
 /// The lines of cut captures that a part has at most: one for each capture, of 255 ports and the underlay.

@@ -1,8 +1,8 @@
 //! The records of one event.
 ghost use Rattle.std.specs.Prelude.{◌≡◌, ◌≤◌, ◌++◌, ⊤, ℕ, List, [], OnOk, false, length, true};
 ghost use Rattle.std.specs.Io.KnownBytes.{Keeps};
-ghost use Rattle.pcap_stream.specs.Sink.{Drain};
-ghost use Rattle.pcap_stream.specs.Source.{Stream, holds_next};
+ghost use Rattle.pcap.specs.Sink.{Drain};
+ghost use Rattle.pcap.specs.Source.{Stream, holds_next};
 ghost use Rattle.timeline.specs.declared.source.Tap.{Tap as ATap};
 ghost use Rattle.timeline.specs.declared.source.Tap.TheVariants.{Port};
 ghost use Rattle.part_merge.specs.Blame.{BlamesNoWrite, CapturesRead, CapturesWrite, MatchRead, SinkWrites, SourceReads, WritesWith};
@@ -15,7 +15,7 @@ use crate::capture::{Capture, Stop};
 use crate::fault::{MergeFault, PartFault, Target};
 use crate::hand_on::hand_on_before;
 use part_lines::Places;
-use pcap_stream::{Input, Output, Sink};
+use pcap::stream::{Input, Output, Sink};
 use timeline::Tap;
 
 /// The captures of a part.

@@ -3,7 +3,7 @@ use Rattle.std.proofs.Common.{◌≡◌, ◌≢◌, ◌∙◌, sym, refl, ap, �
 use Rattle.std.proofs.lemmas.Fmt.{decimal_injective}
 use Rattle.std.proofs.lemmas.List.{append_cancel_left}
 use Rattle.std.proofs.lemmas.List.Elements.{All-head, All-tail}
-use Rattle.octet_sum.specs.declared.sum.OctetSum.{OctetSum}
+use Rattle.octet_sums.specs.declared.fletcher.sum.OctetSum.{OctetSum}
 use Rattle.part_record.specs.Digests.{Lacks}
 use Rattle.part_record.specs.Outputs.{IsOutput, IsTold, numbers, output_line, output_lines, output_word, sums}
 use Rattle.part_record.specs.Record.{IsOneLine}

@@ -1,6 +1,6 @@
 -- What is told of a part's outputs. It states no standard.
 use Rattle.std.specs.Prelude.{◌≡◌, ◌<◌, ℕ, zero, suc, ◌+◌, ◌^◌, List, [], ◌∷◌, ◌++◌, length, codes, decimal, All}
-use Rattle.octet_sum.specs.declared.sum.OctetSum.{OctetSum}
+use Rattle.octet_sums.specs.declared.fletcher.sum.OctetSum.{OctetSum}
 use Rattle.part_record.specs.InTurn.{lines_in_turn}
 use Rattle.part_record.specs.declared.outputs.OutputFacts.{OutputFacts}
 

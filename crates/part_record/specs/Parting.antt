@@ -1,6 +1,6 @@
 -- Whether the parts of a run are all of it. It states no standard.
 use Rattle.std.specs.Prelude.{◌≡◌, ◌<◌, ℕ, List, Option, None, Some, count_by}
-use Rattle.frame_view.specs.Tag.{IsVid}
+use Rattle.wire.specs.Tag.{IsVid}
 use Rattle.segment_set.specs.Segments.{Segments, holds}
 use Rattle.part_record.specs.declared.parting.PartingFault.{PartingFault}
 use Rattle.part_record.specs.declared.parting.PartingFault.TheVariants as faults

@@ -1,8 +1,8 @@
 -- Digests of SHA-256 (FIPS 180-4), and what they are of.
 use Rattle.std.specs.Prelude.{◌≡◌, ℕ, ◌-◌, ◌^◌, List, [], length, min, take, Result, Ok, Err}
 use Rattle.hex.specs.Hex.{IsBytes}
-use Rattle.octet_digest.specs.Hashers.{Holds256}
-use Rattle.octet_digest.specs.declared.hasher.Sha256.{Sha256}
+use Rattle.octet_sums.specs.Hashers.{Holds256}
+use Rattle.octet_sums.specs.declared.sha256.hasher.Sha256.{Sha256}
 
 -- a digest: 32 octets
 pub record IsSum (sum : List ℕ) : Type 0 where

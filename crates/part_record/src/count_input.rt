@@ -2,10 +2,10 @@
 ghost use Rattle.std.specs.Prelude.{◌≡◌, List, ℕ, [], ◌++◌};
 ghost use Rattle.std.specs.Io.{ReadsAtMost};
 ghost use Rattle.std.specs.Io.KnownBytes.{ReadConsumes};
-ghost use Rattle.pcap_stream.specs.Counts.{CountsFaults, GoesOnBy};
+ghost use Rattle.pcap.specs.Counts.{CountsFaults, GoesOnBy};
 ghost use Rattle.part_record.specs.Sum.{counted, taken};
 
-use pcap_stream::{DeviceFault, Input};
+use pcap::stream::{DeviceFault, Input};
 
 /// An input that hands on what another gives, and counts its octets. The count ends at 2^64 - 1.
 #[derive(Drop)]

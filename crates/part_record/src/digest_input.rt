@@ -2,14 +2,14 @@
 ghost use Rattle.std.specs.Prelude.{◌≡◌, ℕ, List, [], ◌++◌, ◌⊎◌, IfOk, OnOk, OnErr};
 ghost use Rattle.std.specs.Io.{ReadsAtMost};
 ghost use Rattle.std.specs.Io.KnownBytes.{Consumes, IsAtEnd, ReadConsumes};
-ghost use Rattle.pcap_stream.specs.Counts.{CountsFaults, GoesOnBy};
+ghost use Rattle.pcap.specs.Counts.{CountsFaults, GoesOnBy};
 ghost use Rattle.part_record.specs.Digests.{digest_of};
 ghost use Rattle.part_record.specs.Sum.{HasTaken, taken};
 
 use crate::count_input::CountInput;
 use crate::digests::CaptureDigest;
-use octet_digest::Sha256;
-use pcap_stream::{DeviceFault, Input};
+use octet_sums::sha256::Sha256;
+use pcap::stream::{DeviceFault, Input};
 use sha2::Digest;
 
 /// How many octets are read at once behind those that were asked for.

@@ -18,6 +18,20 @@
 //! it gets, and its digest, number or sums are those of these octets. `same_run` answers Ok just where all facts but the
 //! segments and the part's own events are the same, `part_all` where each VID and `none` are in exactly one part, `see_octets`
 //! where captures have as many octets as told; and else the first that isn't so.
+//!
+//! Proved of a part's record:
+//! - A text is read as a record just where it is that record's text, with as many outputs as the record's ports and
+//!   two. Where it is none's the fault is one that stands there, one of its own for the version before: `record_of`. A
+//!   text tells one record and its outputs: `laws::one_text_each`.
+//! - `part_all` answers Ok just where each VID of 1 to 4094 and `none` are in exactly one part, and otherwise the
+//!   lowest that isn't.
+//!
+//! Proved of what counts on the way:
+//! - `SumOutput` hands on what is written, and has the number and the sums of the octets that were taken.
+//! - `DigestInput` hands on what its input gives, with its faults. Its digest is SHA-256, as `sha2` states it, of all
+//!   octets that it handed on, with their number, and behind `finish` of all to the end.
+//! - `CountInput` hands on what its input gives, and counts those octets.
+//! - `RecordCounts` has a count for each place, and `count` raises that one alone.
 #![tactic(auto)]
 
 mod count_input;

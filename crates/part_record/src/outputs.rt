@@ -1,6 +1,6 @@
 //! What is told of a part's outputs, and the lines that tell it.
 ghost use Rattle.std.specs.Prelude.{◌≡◌, ◌≢◌, ◌≤◌, ◌<◌, ◌^◌, ◌+◌, ℕ, List, [], ◌∷◌, ◌++◌, All, decimal, length, OnOk, MatchOption};
-ghost use Rattle.octet_sum.specs.declared.sum.OctetSum.{OctetSum as ASum};
+ghost use Rattle.octet_sums.specs.declared.fletcher.sum.OctetSum.{OctetSum as ASum};
 ghost use Rattle.part_record.specs.Outputs.{IsOutput, IsTold, numbers, output_line, output_lines, output_word, sums};
 ghost use Rattle.part_record.specs.declared.outputs.OutputFacts.{OutputFacts as AnOutput};
 
@@ -9,7 +9,7 @@ use crate::facts::MOST_PORTS;
 use crate::steps::{behind, first_line, number_of};
 use arrayvec::ArrayVec;
 use itoa::Buffer;
-use octet_sum::OctetSum;
+use octet_sums::fletcher::OctetSum;
 use std::alloc::AllocError;
 
 /// The most outputs that a part has: the decision lines, the underlay's capture and those of the ports.

@@ -2,9 +2,9 @@
 ghost use Rattle.std.specs.Prelude.{◌≡◌, IfErr, OnOk};
 ghost use Rattle.part_record.specs.Parting.{IsPartedBadly, IsWhole, times};
 
-use frame_view::Vid;
 use segment_set::SegmentSet;
 use thiserror::Error;
+use wire::ether::Vid;
 
 /// The number behind the last VID.
 const VIDS_END: u16 = 4095;

@@ -5,12 +5,12 @@
 ghost use Rattle.std.specs.Prelude.{◌≡◌, ◌≢◌, ◌<◌, List, ℕ, [], ◌++◌, false, true, is_err, IfOk, IsTrue, ◌↔◌, length};
 ghost use Rattle.std.specs.Io.{ReadsAtMost};
 ghost use Rattle.std.specs.Io.KnownBytes.{ReadConsumes};
-ghost use Rattle.pcap_stream.specs.Counts.{CountsFaults, GoesOnBy};
-ghost use Rattle.octet_sum.specs.Sums.{IsSumOf};
+ghost use Rattle.pcap.specs.Counts.{CountsFaults, GoesOnBy};
+ghost use Rattle.octet_sums.specs.Sums.{IsSumOf};
 ghost use Rattle.part_record.specs.Sum.{taken};
 
-use octet_sum::OctetSum;
-use pcap_stream::{DeviceFault, Input};
+use octet_sums::fletcher::OctetSum;
+use pcap::stream::{DeviceFault, Input};
 
 /// An input that hands on what another gives, and fails at the end where that has other sums than were told.
 #[derive(Drop)]

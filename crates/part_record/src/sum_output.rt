@@ -4,12 +4,12 @@
 ghost use Rattle.std.specs.Prelude.{◌≡◌, List, ℕ, None, [], ◌++◌, IfSome, length};
 ghost use Rattle.std.specs.Io.{WritesAtMost};
 ghost use Rattle.std.specs.Io.KnownBytes.{WriteAppends};
-ghost use Rattle.pcap_stream.specs.Counts.{CountsRefusals};
-ghost use Rattle.octet_sum.specs.Sums.{IsSumOf};
+ghost use Rattle.pcap.specs.Counts.{CountsRefusals};
+ghost use Rattle.octet_sums.specs.Sums.{IsSumOf};
 ghost use Rattle.part_record.specs.Sum.{taken};
 
-use octet_sum::OctetSum;
-use pcap_stream::{DeviceFault, Output, WriteFault};
+use octet_sums::fletcher::OctetSum;
+use pcap::stream::{DeviceFault, Output, WriteFault};
 
 /// An output that hands octets on to another, and may sum those that the other took.
 #[derive(Drop)]

@@ -4,8 +4,8 @@ use Rattle.std.specs.Prelude.{◌==◌, ◌&&◌, not, nat_lt, option_map, IfOk,
 use Rattle.std.specs.Io.KnownBytes.{Consumes, IsAtEnd}
 use Rattle.std.proofs.lemmas.Bool.{eq-eqb, eqb-true, le-ltb, lt-ltb, not-false, or_parts}
 use Rattle.std.proofs.lemmas.List.{drop-drop, drop_at}
-use Rattle.pcap_io.specs.Style.{number_of}
-use Rattle.pcap_io.specs.declared.style.Order.{Order}
+use Rattle.pcap.specs.Style.{number_of}
+use Rattle.pcap.specs.declared.text.style.Order.{Order}
 use Rattle.pcapng_input.proofs.Grown.{Grows, IsCutBlock, by_checked, by_order_of, checked, cut_block, four_front, grown, not_all_read, number_of-front, order_at-front, twelve}
 use Rattle.pcapng_input.proofs.Passing.{and_no}
 use Rattle.pcapng_input.specs.Adapter.{Gathered, IsFetched}

@@ -4,14 +4,14 @@ use Rattle.std.specs.List.{find}
 use Rattle.std.specs.Prelude.{◌==◌, ◌&&◌, ◌||◌, IsTrue, MatchBool, nat_lt, not, if◌then◌else◌}
 use Rattle.std.proofs.lemmas.Bool.{cases_lt, le-ltb, ltb-false, ne_eqb, eqb-true, eqb-false, eq-eqb, not-false, or_parts}
 use Rattle.std.proofs.Math.Seq.{take-append-add}
-use Rattle.header_octets.specs.Octets.{IsText}
-use Rattle.header_octets.proofs.OctetsLemmas.{IsText-drop}
+use Rattle.wire.specs.Octets.{IsText}
+use Rattle.wire.proofs.OctetsLemmas.{IsText-drop}
 use Rattle.std.proofs.lemmas.List.{drop_at, take_at, drop-drop, take-append-drop}
-use Rattle.pcap_io.proofs.Headers.{four_from, number_behind}
-use Rattle.pcap_io.proofs.Numbers.{length-octets_of, number_of-fits, number_of-octets_of}
-use Rattle.pcap_io.specs.Style.{number_of, octets_of}
-use Rattle.pcap_io.specs.declared.style.Order.{Order}
-use Rattle.pcap_io.specs.declared.style.Order.TheVariants.{Big, Little}
+use Rattle.pcap.proofs.Headers.{four_from, number_behind}
+use Rattle.pcap.proofs.Numbers.{length-octets_of, number_of-fits, number_of-octets_of}
+use Rattle.pcap.specs.Style.{number_of, octets_of}
+use Rattle.pcap.specs.declared.text.style.Order.{Order}
+use Rattle.pcap.specs.declared.text.style.Order.TheVariants.{Big, Little}
 use Rattle.pcapng_input.specs.Block.{AnotherBlock, Block, CutShort, NoBlock, Refused, block_at, block_by_length, block_by_order, byte_order_magic, end_by_size, is_no_length, is_read, is_section, longest_block, next_block, order_at, section_header, told_order}
 use Rattle.pcapng_input.specs.BlockText.{BeginsWithMagic, IsBlockText, block_text}
 use Rattle.pcapng_input.specs.declared.fault.BlockFault.TheVariants.{BadLength, TooLarge}

@@ -3,10 +3,10 @@ use Rattle.std.proofs.Common.{◌≡◌, ◌∙◌, refl, sym, ap, subst, ℕ, �
 use Rattle.std.specs.Prelude.{◌==◌, ◌&&◌, ◌||◌, nat_lt, not, if◌then◌else◌, slice_get}
 use Rattle.std.proofs.lemmas.Bool.{eq-eqb, le-ltb, lt-ltb, ltb-true}
 use Rattle.std.proofs.lemmas.List.{drop-drop}
-use Rattle.pcap_io.specs.Record.{IsWithinLimits, Record}
-use Rattle.pcap_io.specs.Style.{number_of}
-use Rattle.pcap_io.specs.Written.{written_record}
-use Rattle.pcap_io.specs.declared.style.Order.{Order}
+use Rattle.pcap.specs.Record.{IsWithinLimits, Record}
+use Rattle.pcap.specs.Style.{number_of}
+use Rattle.pcap.specs.Written.{written_record}
+use Rattle.pcap.specs.declared.text.style.Order.{Order}
 use Rattle.pcapng_input.proofs.Grown.{Grows, by_checked, by_order_of, grown}
 use Rattle.pcapng_input.proofs.Readings.{packets-behind}
 use Rattle.pcapng_input.proofs.Settling.{told_found}

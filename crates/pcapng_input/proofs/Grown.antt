@@ -5,9 +5,9 @@ use Rattle.std.proofs.Math.ListN.{drop_of_length-le}
 use Rattle.std.proofs.lemmas.Bool.{cases_lt, le-ltb, lt-ltb, ltb-false, ltb-true, or_parts}
 use Rattle.std.proofs.lemmas.List.{drop-append-le, take-append-drop, take-append-le, take_all}
 use Rattle.byteorder.specs.Numbers.{big_from-append, little_from-append}
-use Rattle.pcap_io.specs.Style.{number_of}
-use Rattle.pcap_io.specs.declared.style.Order.{Order}
-use Rattle.pcap_io.specs.declared.style.Order.TheVariants.{Big, Little}
+use Rattle.pcap.specs.Style.{number_of}
+use Rattle.pcap.specs.declared.text.style.Order.{Order}
+use Rattle.pcap.specs.declared.text.style.Order.TheVariants.{Big, Little}
 use Rattle.pcapng_input.specs.Block.{AllRead, AnotherBlock, Block, BlockEnd, CutShort, NextBlock, NoBlock, Refused, block_at, block_by_length, block_by_order, byte_order_magic, end_by_size, is_no_length, is_read, is_section, longest_block, next_block, order_at, section_header, told_order}
 use Rattle.pcapng_input.specs.State.{size_wanted, wanted_by, wanted_size}
 use Rattle.pcapng_input.specs.declared.fault.BlockFault.TheVariants.{BadLength, TooLarge}

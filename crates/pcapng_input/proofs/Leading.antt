@@ -4,9 +4,9 @@ use Rattle.std.specs.Prelude.{◌==◌, ◌&&◌, ◌||◌, nat_le, nat_lt, opti
 use Rattle.std.proofs.lemmas.Bool.{and_from, eq-eqb, le-leb, le-ltb, leb-true, lt-ltb, ne_eqb}
 use Rattle.std.proofs.lemmas.List.{drop-drop, drop_at}
 use Rattle.std.specs.Io.KnownBytes.{Consumes, IsAtEnd}
-use Rattle.pcap_io.specs.Style.{number_of}
-use Rattle.pcap_io.specs.Written.{written_header}
-use Rattle.pcap_io.specs.declared.style.Order.{Order}
+use Rattle.pcap.specs.Style.{number_of}
+use Rattle.pcap.specs.Written.{written_header}
+use Rattle.pcap.specs.declared.text.style.Order.{Order}
 use Rattle.pcapng_input.proofs.Grown.{four_front, is_section-front}
 use Rattle.pcapng_input.specs.Adapted.{Begun, Faulty, Over, Passing, Plain, Stand, Told, Within, behind_other, is_adapted, is_of_one, packets_closing, told_at, told_behind, told_packets, told_plain, told_reading, told_text}
 use Rattle.pcapng_input.specs.Adapter.{Adapter, Gathered, IsFetched, KeepsTold, told, told_from}

@@ -3,10 +3,10 @@ use Rattle.std.proofs.Common.{◌≡◌, ◌⊎◌, ◌∙◌, refl, sym, ap, su
 use Rattle.std.proofs.lemmas.List.{drop_all, length-take-le, take-append-drop, take_all, take_min}
 use Rattle.std.specs.Io.KnownBytes.{Consumes, IsAtEnd}
 use Rattle.std.specs.Prelude.{◌&&◌, nat_le}
-use Rattle.pcap_io.specs.Style.{number_of}
-use Rattle.pcap_io.specs.Written.{written_header}
-use Rattle.pcap_io.specs.declared.style.Order.{Order}
-use Rattle.pcap_stream.specs.Supply.{Spends, Supply}
+use Rattle.pcap.specs.Style.{number_of}
+use Rattle.pcap.specs.Written.{written_header}
+use Rattle.pcap.specs.declared.text.style.Order.{Order}
+use Rattle.pcap.specs.Supply.{Spends, Supply}
 use Rattle.pcapng_input.proofs.Grown.{wanted-fits, wanted-front}
 use Rattle.pcapng_input.proofs.Leading.{begins_pcapng, begins_plain, ends_cut, ends_faulty, ends_whole, lead, passes_some, stays}
 use Rattle.pcapng_input.specs.Adapted.{Begun, Faulty, Over, Passing, Plain, Stand, Told, Within, behind_other, is_of_one, told_at, told_behind, told_reading}

@@ -3,12 +3,12 @@ use Rattle.std.proofs.Common.{◌≡◌, refl, ℕ, zero, suc, ◌+◌, ◌-◌,
 use Rattle.std.specs.List.{AllByRecursion}
 use Rattle.std.specs.Prelude.{◌==◌, ◌&&◌, nat_lt, not, if◌then◌else◌, slice_get}
 use Rattle.std.proofs.lemmas.Bool.{ltb-false}
-use Rattle.header_octets.specs.Octets.{IsText}
-use Rattle.header_octets.proofs.OctetsLemmas.{IsText-drop, IsText-take}
-use Rattle.pcap_io.proofs.Numbers.{number_of-fits}
-use Rattle.pcap_io.specs.Record.{IsWithinLimits, Record, last_moment, longest}
-use Rattle.pcap_io.specs.Style.{number_of, second}
-use Rattle.pcap_io.specs.declared.style.Order.{Order}
+use Rattle.wire.specs.Octets.{IsText}
+use Rattle.wire.proofs.OctetsLemmas.{IsText-drop, IsText-take}
+use Rattle.pcap.proofs.Numbers.{number_of-fits}
+use Rattle.pcap.specs.Record.{IsWithinLimits, Record, last_moment, longest}
+use Rattle.pcap.specs.Style.{number_of, second}
+use Rattle.pcap.specs.declared.text.style.Order.{Order}
 use Rattle.pcapng_input.specs.Block.{AnotherBlock, Block, CutShort, NextBlock, NoBlock, Refused, block_at, block_by_order, end_by_size, interface_description, is_no_length, is_of_packet, is_read, longest_block, next_block, obsolete_packet, order_at, section_header, simple_packet}
 use Rattle.pcapng_input.specs.Interface.{described}
 use Rattle.pcapng_input.specs.Meaning.{IsMeantWithinLimits, block_meaning, head_in, head_size, interface_in, interface_meaning, is_outbound, packet_in, packet_meaning, record_meaning, section_in}

@@ -2,8 +2,8 @@
 use Rattle.std.proofs.Common.{◌≡◌, ◌∙◌, refl, sym, ap, subst, true, false, List, [], ◌∷◌, ◌++◌, append_assoc, append-nil, Option, None, Some}
 use Rattle.std.specs.List.{flat_map}
 use Rattle.std.specs.Prelude.{ℕ, length, ◌&&◌, ◌||◌, nat_le, option_map, if◌then◌else◌}
-use Rattle.pcap_io.specs.Record.{Record}
-use Rattle.pcap_io.specs.Written.{written, written_header, written_record}
+use Rattle.pcap.specs.Record.{Record}
+use Rattle.pcap.specs.Written.{written, written_header, written_record}
 use Rattle.pcapng_input.specs.Adapted.{Begun, TellsClassic, Told, Within, is_adapted, is_of_one, told_at, told_behind, told_packets, told_plain, told_reading, told_text}
 use Rattle.pcapng_input.specs.Adapter.{Adapter, told, told_from}
 use Rattle.pcapng_input.specs.Block.{is_section}

@@ -2,9 +2,9 @@
 use Rattle.std.proofs.Common.{◌≡◌, ◌∙◌, refl, sym, ap, ℕ, ◌+◌, ◌≤◌, Bool, true, false, List, [], length, drop, arith, length-drop}
 use Rattle.std.specs.Prelude.{◌==◌, nat_lt, if◌then◌else◌}
 use Rattle.std.proofs.lemmas.Bool.{ltb-false}
-use Rattle.pcap_io.proofs.Bounded.{one_step}
-use Rattle.pcap_io.specs.Style.{number_of}
-use Rattle.pcap_io.specs.declared.style.Order.{Order}
+use Rattle.pcap.proofs.Bounded.{one_step}
+use Rattle.pcap.specs.Style.{number_of}
+use Rattle.pcap.specs.declared.text.style.Order.{Order}
 use Rattle.pcapng_input.specs.Options.{AnotherOption, BlockOption, NextOption, NoOption, OptionList, block_option_at, block_options, first_options, next_option, option_before, option_by_length, options_by, padded}
 
 -- what is left behind an option is shorter by its head at least

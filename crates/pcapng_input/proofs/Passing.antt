@@ -3,8 +3,8 @@ use Rattle.std.proofs.Common.{◌≡◌, ◌∙◌, refl, sym, ap, ℕ, ◌+◌,
 use Rattle.std.specs.Prelude.{◌==◌, ◌&&◌, ◌||◌, nat_lt, if◌then◌else◌}
 use Rattle.std.proofs.lemmas.Bool.{le-ltb, lt-ltb, ltb-false, ltb-true}
 use Rattle.std.proofs.lemmas.List.{drop-drop}
-use Rattle.pcap_io.specs.Style.{number_of}
-use Rattle.pcap_io.specs.declared.style.Order.{Order}
+use Rattle.pcap.specs.Style.{number_of}
+use Rattle.pcap.specs.declared.text.style.Order.{Order}
 use Rattle.pcapng_input.proofs.Grown.{IsCutBlock, by_checked, by_order_of, checked, four_front, number_of-front, order_at-front, twelve}
 use Rattle.pcapng_input.proofs.Readings.{packets-next}
 use Rattle.pcapng_input.specs.Adapted.{behind_other, packets_closing}

@@ -2,9 +2,9 @@
 use Rattle.std.proofs.Common.{◌≡◌, ◌∙◌, refl, sym, ap, subst, ℕ, ◌+◌, ◌-◌, ◌≤◌, Bool, true, false, List, length, take, drop, arith, length-drop, length-take, Option, None, Some, Result, Ok, Err}
 use Rattle.std.specs.Prelude.{◌==◌, ◌&&◌, nat_lt, if◌then◌else◌}
 use Rattle.std.proofs.lemmas.Bool.{ltb-false, or_parts}
-use Rattle.pcap_io.proofs.Bounded.{one_step}
-use Rattle.pcap_io.specs.Style.{number_of}
-use Rattle.pcap_io.specs.declared.style.Order.{Order}
+use Rattle.pcap.proofs.Bounded.{one_step}
+use Rattle.pcap.specs.Style.{number_of}
+use Rattle.pcap.specs.declared.text.style.Order.{Order}
 use Rattle.pcapng_input.specs.Block.{AnotherBlock, Block, BlockEnd, CutShort, NextBlock, NoBlock, Refused, block_at, block_by_order, end_by_size, is_no_length, is_read, longest_block, next_block, order_at}
 use Rattle.pcapng_input.specs.Reading.{Context, EndsFaulty, PacketReading, Step, end_at, ended, block_fault_at, first_packets, found_before, packets_in, reading_by_block, reading_by_step, step_of}
 use Rattle.pcapng_input.specs.declared.fault.BlockFault.{BlockFault}

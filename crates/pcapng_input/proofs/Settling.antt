@@ -4,10 +4,10 @@ use Rattle.std.specs.Prelude.{nat_lt, if◌then◌else◌}
 use Rattle.std.specs.List.{flat_map}
 use Rattle.std.proofs.lemmas.List.Concat.{flat_map-cons}
 use Rattle.std.proofs.lemmas.Bool.{cases_lt, eqb-true, ltb-false, ltb-true, not-false, or_parts}
-use Rattle.pcap_io.specs.Record.{Record}
-use Rattle.pcap_io.specs.Style.{number_of}
-use Rattle.pcap_io.specs.Written.{written_record}
-use Rattle.pcap_io.specs.declared.style.Order.{Order}
+use Rattle.pcap.specs.Record.{Record}
+use Rattle.pcap.specs.Style.{number_of}
+use Rattle.pcap.specs.Written.{written_record}
+use Rattle.pcap.specs.declared.text.style.Order.{Order}
 use Rattle.pcapng_input.proofs.Grown.{Grows, IsCutBlock, cut_block, grown, no_block, none_behind, not_all_read, twelve, wanted-short, wanted-told}
 use Rattle.pcapng_input.proofs.Passing.{passes}
 use Rattle.pcapng_input.proofs.Readings.{packets-behind, packets-end, packets-faulty}

@@ -2,16 +2,16 @@
 use Rattle.std.proofs.Common.{◌≡◌, ◌∙◌, refl, sym, ap, ℕ, List, [], ◌∷◌, ◌++◌, append_assoc, Result, Ok}
 use Rattle.std.specs.List.{AllByRecursion, flat_map}
 use Rattle.std.proofs.lemmas.List.Concat.{flat_map-cons}
-use Rattle.header_octets.specs.Octets.{IsText}
-use Rattle.pcap_io.proofs.Opened.{opened-is}
-use Rattle.pcap_io.proofs.RoundTrip.{opened-written, record_text}
-use Rattle.pcap_io.specs.Capture.{IsCapture, opened}
-use Rattle.pcap_io.specs.Next.{Cut}
-use Rattle.pcap_io.specs.Reading.{AreRecordTexts}
-use Rattle.pcap_io.specs.Record.{IsWithinLimits, Record, longest}
-use Rattle.pcap_io.specs.Style.{octets_of}
-use Rattle.pcap_io.specs.Written.{written, written_record, written_style}
-use Rattle.pcap_io.specs.declared.style.Order.TheVariants.{Little}
+use Rattle.wire.specs.Octets.{IsText}
+use Rattle.pcap.proofs.Opened.{opened-is}
+use Rattle.pcap.proofs.RoundTrip.{opened-written, record_text}
+use Rattle.pcap.specs.Capture.{IsCapture, opened}
+use Rattle.pcap.specs.Next.{Cut}
+use Rattle.pcap.specs.Reading.{AreRecordTexts}
+use Rattle.pcap.specs.Record.{IsWithinLimits, Record, longest}
+use Rattle.pcap.specs.Style.{octets_of}
+use Rattle.pcap.specs.Written.{written, written_record, written_style}
+use Rattle.pcap.specs.declared.text.style.Order.TheVariants.{Little}
 use Rattle.pcapng_input.proofs.Limits.{packets-limits}
 use Rattle.pcapng_input.specs.Classic.{capture_by, classic_end, classic_text}
 use Rattle.pcapng_input.specs.Reading.{EndsCut, EndsFaulty, EndsWhole, TextEnd, packets_of}

@@ -3,9 +3,9 @@ use Rattle.std.proofs.Common.{◌≡◌, ◌∙◌, refl, sym, ap, subst, ℕ, �
 use Rattle.std.specs.Prelude.{if◌then◌else◌, is_ok}
 use Rattle.std.specs.List.{flat_map}
 use Rattle.std.proofs.lemmas.List.Concat.{flat_map-cons}
-use Rattle.pcap_io.specs.Record.{Record}
-use Rattle.pcap_io.specs.Written.{record_header_of, written, written_header, written_record}
-use Rattle.pcap_io.specs.declared.style.Order.{Order}
+use Rattle.pcap.specs.Record.{Record}
+use Rattle.pcap.specs.Written.{record_header_of, written, written_header, written_record}
+use Rattle.pcap.specs.declared.text.style.Order.{Order}
 use Rattle.pcapng_input.proofs.Readings.{packets-behind, packets-end, packets-faulty}
 use Rattle.pcapng_input.specs.Block.{AllRead, AnotherBlock, Block, CutShort, NoBlock, Refused, next_block}
 use Rattle.pcapng_input.specs.Classic.{IsErrorOf, capture_by, classic_text, found_text}

@@ -2,9 +2,9 @@
 use Rattle.std.specs.Prelude.{◌≡◌, ℕ, ◌+◌, ◌==◌, ◌&&◌, ◌||◌, nat_le, nat_lt, if◌then◌else◌, Bool, true}
 use Rattle.std.specs.Prelude.{false, List, [], ◌∷◌, ◌++◌, length, drop, Option, Some, None, Result, Ok, Err}
 use Rattle.std.specs.List.{flat_map}
-use Rattle.pcap_io.specs.Style.{number_of}
-use Rattle.pcap_io.specs.Written.{written_header, written_record}
-use Rattle.pcap_io.specs.declared.style.Order.{Order}
+use Rattle.pcap.specs.Style.{number_of}
+use Rattle.pcap.specs.Written.{written_header, written_record}
+use Rattle.pcap.specs.declared.text.style.Order.{Order}
 use Rattle.pcapng_input.specs.Block.{is_section}
 use Rattle.pcapng_input.specs.Classic.{classic_text}
 use Rattle.pcapng_input.specs.Reading.{Context, EndsCut, EndsFaulty, EndsWhole, PacketReading}

@@ -1,7 +1,7 @@
 -- An input of a capture: what it has ready, where it stands, and what the input below it has left. It states no standard.
 use Rattle.std.specs.Prelude.{◌≡◌, ◌≤◌, ℕ, Bool, false, List, [], ◌++◌, length, Option, Some, None, option_map, ⊤}
 use Rattle.std.specs.Io.KnownBytes.{Consumes, IsAtEnd}
-use Rattle.pcap_stream.specs.Supply.{Supply}
+use Rattle.pcap.specs.Supply.{Supply}
 use Rattle.pcapng_input.specs.Adapted.{Stand, Told, left_out_at, met, told_at, told_behind}
 use Rattle.pcapng_input.specs.declared.fault.PcapngFault.{PcapngFault}
 use Rattle.pcapng_input.specs.declared.interface.Selection.{Selection}

@@ -3,10 +3,10 @@
 use Rattle.std.specs.Prelude.{ℕ, ◌-◌, ◌%◌, ◌==◌, ◌&&◌, ◌||◌, not, nat_lt, if◌then◌else◌}
 use Rattle.std.specs.Prelude.{Bool, List, [], ◌∷◌, length, drop, Option, Some, None}
 use Rattle.std.specs.List.{find}
-use Rattle.header_octets.specs.Octets.{part}
-use Rattle.pcap_io.specs.Style.{number_of}
-use Rattle.pcap_io.specs.declared.style.Order.{Order}
-use Rattle.pcap_io.specs.declared.style.Order.TheVariants.{Big, Little}
+use Rattle.wire.specs.Octets.{part}
+use Rattle.pcap.specs.Style.{number_of}
+use Rattle.pcap.specs.declared.text.style.Order.{Order}
+use Rattle.pcap.specs.declared.text.style.Order.TheVariants.{Big, Little}
 use Rattle.pcapng_input.specs.declared.fault.BlockFault.{BlockFault}
 use Rattle.pcapng_input.specs.declared.fault.BlockFault.TheVariants.{NoSection, BadLength, TooLarge}
 

@@ -1,8 +1,8 @@
 -- The texts of blocks (draft-ietf-opsawg-pcapng, 3.1 and 4.1), and that each is read as its block.
 use Rattle.std.specs.Prelude.{◌≡◌, ◌<◌, ◌≤◌, ℕ, ◌+◌, ◌%◌, ◌^◌, ◌==◌, IsTrue, MatchBool, List, ◌++◌, length, Option, Some}
-use Rattle.header_octets.specs.Octets.{IsText}
-use Rattle.pcap_io.specs.Style.{octets_of}
-use Rattle.pcap_io.specs.declared.style.Order.{Order}
+use Rattle.wire.specs.Octets.{IsText}
+use Rattle.pcap.specs.Style.{octets_of}
+use Rattle.pcap.specs.declared.text.style.Order.{Order}
 use Rattle.pcapng_input.specs.Block.{AnotherBlock, Block, byte_order_magic, is_read, longest_block, next_block, section_header}
 
 -- a block as a text: its type, its length, its body and its length again, in its byte order

@@ -1,10 +1,10 @@
 -- The classic capture (pcap-savefile(5)) of a pcapng text.
 use Rattle.std.specs.Prelude.{◌≡◌, ℕ, List, [], ◌∷◌, ◌++◌, Option, Some, None, Result, Ok, Err, ⊤}
-use Rattle.header_octets.specs.Octets.{IsText}
-use Rattle.pcap_io.specs.Capture.{opened}
-use Rattle.pcap_io.specs.Next.{Cut, End, Whole}
-use Rattle.pcap_io.specs.Record.{Record}
-use Rattle.pcap_io.specs.Written.{written, written_record}
+use Rattle.wire.specs.Octets.{IsText}
+use Rattle.pcap.specs.Capture.{opened}
+use Rattle.pcap.specs.Next.{Cut, End, Whole}
+use Rattle.pcap.specs.Record.{Record}
+use Rattle.pcap.specs.Written.{written, written_record}
 use Rattle.pcapng_input.specs.Reading.{EndsCut, EndsFaulty, EndsWhole, PacketReading, TextEnd, packets_of}
 use Rattle.pcapng_input.specs.declared.fault.PcapngError.{PcapngError}
 use Rattle.pcapng_input.specs.declared.fault.PcapngError.TheVariants.{Faulty, OutOfMemory}

@@ -2,8 +2,8 @@
 use Rattle.std.specs.Prelude.{◌≡◌, ◌<◌, ◌≤◌, ℕ, ◌+◌, ◌-◌, ◌*◌, ◌==◌, Bool, true, false, List}
 use Rattle.std.specs.Prelude.{[], ◌++◌, length, drop, Option, Some, None, option_map, IfSome, ⊤}
 use Rattle.std.specs.Io.KnownBytes.{Consumes}
-use Rattle.pcap_io.specs.Style.{number_of}
-use Rattle.pcap_io.specs.declared.style.Order.{Order}
+use Rattle.pcap.specs.Style.{number_of}
+use Rattle.pcap.specs.declared.text.style.Order.{Order}
 use Rattle.pcapng_input.specs.Adapter.{Gathered}
 use Rattle.pcapng_input.specs.Block.{AnotherBlock, Block, CutShort, NextBlock, NoBlock, Refused}
 use Rattle.pcapng_input.specs.Block.{is_no_length, is_read, longest_block, next_block, order_at}

@@ -1,10 +1,10 @@
 -- The packets that a text of blocks begins with, and the records that are given of them. It serves proofs.
 use Rattle.std.specs.Prelude.{◌≡◌, ◌<◌, ◌≤◌, ℕ, ◌+◌, ◌-◌, ◌%◌, nat_lt, if◌then◌else◌, not, Bool, true}
 use Rattle.std.specs.Prelude.{false, List, ◌++◌, length, drop, slice_get, Option, Some, None, Ok, ⊤}
-use Rattle.header_octets.specs.Octets.{part}
-use Rattle.pcap_io.specs.Record.{IsWithinLimits, Record}
-use Rattle.pcap_io.specs.Style.{number_of}
-use Rattle.pcap_io.specs.declared.style.Order.{Order}
+use Rattle.wire.specs.Octets.{part}
+use Rattle.pcap.specs.Record.{IsWithinLimits, Record}
+use Rattle.pcap.specs.Style.{number_of}
+use Rattle.pcap.specs.declared.text.style.Order.{Order}
 use Rattle.pcapng_input.specs.Adapted.{told_behind, told_reading}
 use Rattle.pcapng_input.specs.Block.{enhanced_packet, is_section, longest_block}
 use Rattle.pcapng_input.specs.Packet.{enhanced_head, packet_record}

@@ -1,8 +1,8 @@
 -- Interfaces (draft-ietf-opsawg-pcapng, 4.2): a link type and 16 reserved bits, a snapshot length of 32 bits, and options.
 use Rattle.std.specs.Prelude.{ℕ, ◌==◌, nat_lt, if◌then◌else◌, Bool, true, false, List, length, drop, Option, Some, None, Result, Ok, Err}
-use Rattle.header_octets.specs.Octets.{is_same, octet}
-use Rattle.pcap_io.specs.Style.{number_of}
-use Rattle.pcap_io.specs.declared.style.Order.{Order}
+use Rattle.wire.specs.Octets.{is_same, octet}
+use Rattle.pcap.specs.Style.{number_of}
+use Rattle.pcap.specs.declared.text.style.Order.{Order}
 use Rattle.pcapng_input.specs.Options.{OptionList, block_options, option_value}
 use Rattle.pcapng_input.specs.declared.fault.BlockFault.{BlockFault}
 use Rattle.pcapng_input.specs.declared.fault.BlockFault.TheVariants.{ShortBlock}

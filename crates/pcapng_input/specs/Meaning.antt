@@ -1,8 +1,8 @@
 -- What a block means (draft-ietf-opsawg-pcapng, 4.1 to 4.4 and A.1).
 use Rattle.std.specs.Prelude.{ℕ, ◌+◌, ◌==◌, ◌&&◌, not, nat_lt, if◌then◌else◌, Bool, List}
 use Rattle.std.specs.Prelude.{length, drop, Option, Some, None, Result, Ok, Err, ⊤}
-use Rattle.pcap_io.specs.Record.{IsWithinLimits, Record}
-use Rattle.pcap_io.specs.Style.{number_of}
+use Rattle.pcap.specs.Record.{IsWithinLimits, Record}
+use Rattle.pcap.specs.Style.{number_of}
 use Rattle.pcapng_input.specs.Block.{Block, interface_description, is_of_packet, obsolete_packet, section_header, simple_packet}
 use Rattle.pcapng_input.specs.Interface.{described}
 use Rattle.pcapng_input.specs.Options.{padded}

@@ -1,8 +1,8 @@
 -- Moments of an interface (draft-ietf-opsawg-pcapng, 4.2 and 4.3): a count of ticks since 1970, which `if_tsresol` says the
 -- length of, and `if_tsoffset` how many seconds to add to.
 use Rattle.std.specs.Prelude.{ℕ, ◌+◌, ◌-◌, ◌*◌, ◌/◌, ◌^◌, nat_lt, if◌then◌else◌, Option, Some, None}
-use Rattle.pcap_io.specs.Record.{last_moment}
-use Rattle.pcap_io.specs.Style.{second}
+use Rattle.pcap.specs.Record.{last_moment}
+use Rattle.pcap.specs.Style.{second}
 
 -- how many ticks a second has: a power of 10, or of 2 where the high bit is set
 abbrev pub ticks_a_second : ℕ → ℕ

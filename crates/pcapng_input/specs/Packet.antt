@@ -1,10 +1,10 @@
 -- Packets (draft-ietf-opsawg-pcapng, 4.3, 4.4 and A.1), as records of a classic capture.
 use Rattle.std.specs.Prelude.{ℕ, ◌+◌, ◌*◌, ◌%◌, ◌==◌, ◌&&◌, nat_lt, not, if◌then◌else◌, Bool, false, min, List}
 use Rattle.std.specs.Prelude.{length, take, drop, Option, Some, None, unwrap_or, Result, Ok, Err, slice_get}
-use Rattle.pcap_io.specs.Header.{ethernet}
-use Rattle.pcap_io.specs.Record.{Record, longest}
-use Rattle.pcap_io.specs.Style.{number_of}
-use Rattle.pcap_io.specs.declared.style.Order.{Order}
+use Rattle.pcap.specs.Header.{ethernet}
+use Rattle.pcap.specs.Record.{Record, longest}
+use Rattle.pcap.specs.Style.{number_of}
+use Rattle.pcap.specs.declared.text.style.Order.{Order}
 use Rattle.pcapng_input.specs.Moments.{offset_moment, ticks_in_nanoseconds}
 use Rattle.pcapng_input.specs.Options.{block_options, option_value}
 use Rattle.pcapng_input.specs.declared.fault.BlockFault.{BlockFault}

@@ -1,7 +1,7 @@
 -- The packets of a pcapng text as records, block by block, and how it ends (draft-ietf-opsawg-pcapng, 3 and 4).
 use Rattle.std.specs.Prelude.{ℕ, zero, suc, ◌+◌, List, [], ◌∷◌, ◌++◌, length, Option, Some, None, Result, Ok, Err}
-use Rattle.pcap_io.specs.Record.{Record}
-use Rattle.pcap_io.specs.declared.style.Order.{Order}
+use Rattle.pcap.specs.Record.{Record}
+use Rattle.pcap.specs.declared.text.style.Order.{Order}
 use Rattle.pcapng_input.specs.Block.{AllRead, AnotherBlock, Block, BlockEnd, CutShort, NextBlock, NoBlock, Refused, next_block}
 use Rattle.pcapng_input.specs.Meaning.{block_meaning}
 use Rattle.pcapng_input.specs.declared.fault.BlockFault.{BlockFault}

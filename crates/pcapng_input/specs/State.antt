@@ -1,8 +1,8 @@
 -- What the state of an adapted input means, and what it keeps to. It serves proofs.
 use Rattle.std.specs.Prelude.{◌≡◌, ◌<◌, ◌≤◌, ℕ, ◌+◌, ◌-◌, ◌*◌, nat_lt, if◌then◌else◌, Bool}
 use Rattle.std.specs.Prelude.{false, List, [], ◌++◌, length, drop, Option, Some, None, ⊤}
-use Rattle.pcap_io.specs.Style.{number_of}
-use Rattle.pcap_io.specs.declared.style.Order.{Order}
+use Rattle.pcap.specs.Style.{number_of}
+use Rattle.pcap.specs.declared.text.style.Order.{Order}
 use Rattle.pcapng_input.specs.Adapted.{Begun, Faulty, Over, Passing, Plain, Stand, Told, Within}
 use Rattle.pcapng_input.specs.Adapted.{is_of_one, packets_closing, told_behind, told_reading}
 use Rattle.pcapng_input.specs.Adapter.{Gathered, KeepsTold, told}

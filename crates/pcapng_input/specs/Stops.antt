@@ -1,7 +1,7 @@
 -- Why a read of a capture's input fails. It states no standard.
 --     FailsFor      no read below failed and all is well, or one of three causes
 use Rattle.std.specs.Prelude.{◌≡◌, ◌⊎◌, Bool, true, false, IsSome, Result, Ok, Err}
-use Rattle.pcap_stream.specs.Supply.{GivesUp, Supply}
+use Rattle.pcap.specs.Supply.{GivesUp, Supply}
 use Rattle.pcapng_input.specs.Adapter.{Adapter, met_fault}
 use Rattle.pcapng_input.specs.declared.stop.Stop.{Stop}
 use Rattle.pcapng_input.specs.declared.stop.Stop.TheVariants as stop

@@ -2,7 +2,7 @@
 ghost use Rattle.std.specs.Prelude.{◌≡◌, ◌<◌, ◌≤◌, ℕ, [], Option, Some, None, min, length, option_map, take, IfOk, IfSome, IsSome, OnOk};
 ghost use Rattle.std.specs.Io.{ReadsAtMost};
 ghost use Rattle.std.specs.Io.KnownBytes.{ReadConsumes};
-ghost use Rattle.pcap_stream.specs.Supply.{Spends, untouched};
+ghost use Rattle.pcap.specs.Supply.{Spends, untouched};
 ghost use Rattle.pcapng_input.specs.Adapted.{is_of_one, told_text};
 ghost use Rattle.pcapng_input.specs.Adapter.{IsAllTold, KeepsFault, KeepsTold, TellsBehind};
 ghost use Rattle.pcapng_input.specs.Adapter.{left_out_by, met_fault, told, told_fault, told_octets};
@@ -17,8 +17,8 @@ use crate::reading::read_on;
 use crate::ready::Ready;
 use crate::state::State;
 use crate::stop::Stop;
-use pcap_io::global_header;
-use pcap_stream::Input;
+use pcap::stream::Input;
+use pcap::text::global_header;
 use std::alloc::{AllocError, Global};
 use std::marker::Model;
 

@@ -3,7 +3,7 @@
 //! Blocks that are read (sections, interfaces, packets) have at most 327,680 octets: those of the longest packet and 65,536 for
 //! the rest, so that a reader piece by piece needs that much room. Blocks of other types have any length.
 ghost use Rattle.std.specs.Prelude.{◌≡◌, ◌≤◌, ◌&&◌, nat_le, nat_lt, ℕ, IsFalse, drop, length};
-ghost use Rattle.pcap_io.specs.Style.{number_of};
+ghost use Rattle.pcap.specs.Style.{number_of};
 ghost use Rattle.pcapng_input.specs.Block.{NoBlock, block_by_length, end_by_size, is_no_length, is_of_packet};
 ghost use Rattle.pcapng_input.specs.Block.{is_read, is_section, longest_block, next_block, order_at, told_order};
 ghost use Rattle.pcapng_input.specs.Seen.{IsShorter, block_seen};
@@ -11,7 +11,7 @@ ghost use Rattle.pcapng_input.specs.Seen.{IsShorter, block_seen};
 use crate::fault::BlockFault;
 use crate::number::number4;
 use byteorder::{BigEndian, ByteOrder};
-use pcap_io::Order;
+use pcap::text::Order;
 use std::marker::Model;
 
 /// The type of a section header, the same in both byte orders.

@@ -11,8 +11,8 @@
 ghost use Rattle.std.specs.Prelude.{◌≡◌, ◌<◌, ℕ, Option, None, Some, min, length, option_map, IfOk, IfSome};
 ghost use Rattle.std.specs.Io.{ReadsAtMost};
 ghost use Rattle.std.specs.Io.KnownBytes.{ReadConsumes};
-ghost use Rattle.pcap_stream.specs.Counts.{CountsFaults, GoesOnBy};
-ghost use Rattle.pcap_stream.specs.Supply.{Spends, untouched};
+ghost use Rattle.pcap.specs.Counts.{CountsFaults, GoesOnBy};
+ghost use Rattle.pcap.specs.Supply.{Spends, untouched};
 ghost use Rattle.pcapng_input.specs.Adapted.{told_text};
 ghost use Rattle.pcapng_input.specs.Adapter.{IsAllTold, KeepsFault, left_out_by, met_fault, told, told_fault, told_octets};
 ghost use Rattle.pcapng_input.specs.Stops.{FailsFor};
@@ -20,7 +20,7 @@ ghost use Rattle.pcapng_input.specs.Stops.{FailsFor};
 use crate::adapter::Adapter;
 use crate::fault::PcapngFault;
 use crate::interface::Selection;
-use pcap_stream::{DeviceFault, Input};
+use pcap::stream::{DeviceFault, Input};
 use std::alloc::{AllocError, Global};
 
 /// An input of a capture: a pcapng one is told as the classic capture of its packets but for outbound ones, which are left out

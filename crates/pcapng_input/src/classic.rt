@@ -1,14 +1,14 @@
 //! The classic capture of a pcapng text.
 ghost use Rattle.std.specs.Prelude.{◌≡◌, ◌<◌, ◌^◌, ◌++◌, length, IfOk, IfErr, IfSome, OnOk, Ok};
-ghost use Rattle.pcap_io.specs.Record.{IsWithinLimits};
-ghost use Rattle.pcap_io.specs.Written.{written_record};
+ghost use Rattle.pcap.specs.Record.{IsWithinLimits};
+ghost use Rattle.pcap.specs.Written.{written_record};
 ghost use Rattle.pcapng_input.specs.Classic.{IsErrorOf, classic_text, found_text};
 
 use crate::block::{NextBlock, next_block};
 use crate::context::Context;
 use crate::fault::PcapngError;
 use crate::interface::Selection;
-use pcap_io::{Record, put_header, record_head};
+use pcap::text::{Record, put_header, record_head};
 use std::alloc::{AllocError, Global};
 
 /// Adds a record.

@@ -1,6 +1,6 @@
 //! What is known in front of a block.
 ghost use Rattle.std.specs.Prelude.{◌≡◌, ◌≤◌, ◌<◌, ◌+◌, ◌^◌, length, take, None, Some, IfOk, IfErr, IfSome, OnErr, OnOk, Ok, Err};
-ghost use Rattle.pcap_io.specs.Record.{IsWithinLimits};
+ghost use Rattle.pcap.specs.Record.{IsWithinLimits};
 ghost use Rattle.pcapng_input.specs.Adapted.{behind_other};
 ghost use Rattle.pcapng_input.specs.Context.{IsStepError};
 ghost use Rattle.pcapng_input.specs.Meaning.{IsMeantWithinLimits, block_meaning};
@@ -13,7 +13,7 @@ use crate::front::{FrontPacket, front_packet};
 use crate::interface::{Interface, Selection};
 use crate::meaning::{BlockMeaning, block_meaning};
 use crate::ready::put_record;
-use pcap_io::{Order, Record};
+use pcap::text::{Order, Record};
 use std::alloc::{AllocError, Global};
 use std::marker::Model;
 
@@ -40,7 +40,7 @@ pub struct Context {
 
 impl Model for Context {
     ghost use Rattle.std.specs.Prelude.{◌≤◌};
-    ghost use Rattle.pcap_io.specs.Record.{last_moment};
+    ghost use Rattle.pcap.specs.Record.{last_moment};
     ghost use Rattle.pcapng_input.specs.Reading.{Context};
 
     ghost Value = { Context };

@@ -1,7 +1,7 @@
 //! How the next block of an input comes whole into the room.
 ghost use Rattle.std.specs.Prelude.{◌≡◌, ◌≤◌, ◌+◌, [], drop, length, IfOk, IfNone, IfSome};
-ghost use Rattle.pcap_io.specs.Style.{number_of};
-ghost use Rattle.pcap_stream.specs.Supply.{Spends};
+ghost use Rattle.pcap.specs.Style.{number_of};
+ghost use Rattle.pcap.specs.Supply.{Spends};
 ghost use Rattle.pcapng_input.specs.Block.{longest_block};
 ghost use Rattle.pcapng_input.specs.Filled.{HasFewer, IsFilled, IsLacking, IsNumberNext, IsPassedOver};
 ghost use Rattle.pcapng_input.specs.Filled.{PassesBlock, PassesBody, octets_left, octets_passed};
@@ -11,8 +11,8 @@ use crate::block::{EMPTY_BLOCK, LONGEST_BLOCK, NextBlock, next_block, order_at};
 use crate::gathered::Gathered;
 use crate::number::number4;
 use crate::stop::Stop;
-use pcap_io::Order;
-use pcap_stream::Input;
+use pcap::stream::Input;
+use pcap::text::Order;
 
 /// The octets of a block's second length.
 const SECOND_LENGTH: usize = 4;

@@ -7,7 +7,7 @@
 //! interface each over one file of nine make 59 instructions a block and source of it, where each block gathered and taken by
 //! itself costs 581; a source of all interfaces 237 a packet in place of 959.
 ghost use Rattle.std.specs.Prelude.{◌≡◌, ◌≤◌, length, IfSome};
-ghost use Rattle.pcap_io.specs.Record.{last_moment};
+ghost use Rattle.pcap.specs.Record.{last_moment};
 ghost use Rattle.pcapng_input.specs.Front.{IsEnhanced, IsFrontPacket, bare_packet, body_of};
 
 use crate::block::{EMPTY_BLOCK, ENHANCED_PACKET, LONGEST_BLOCK, is_pcapng};
@@ -16,7 +16,7 @@ use crate::meaning::behind_head;
 use crate::number::number4;
 use crate::option::OPTION_HEADER;
 use crate::packet::{TIMED_HEAD, enhanced_head, packet_record};
-use pcap_io::{Order, Record};
+use pcap::text::{Order, Record};
 
 /// The octets of an enhanced packet block without those of its packet.
 const AROUND_PACKET: usize = EMPTY_BLOCK + TIMED_HEAD;

@@ -9,8 +9,8 @@
 ghost use Rattle.std.specs.Prelude.{◌≡◌, ◌≤◌, ◌<◌, ◌+◌, ◌-◌, ℕ, [], drop, length, max, slice_range, take, vec_capacity, IfOk, OnErr, OnOk};
 ghost use Rattle.std.specs.Io.{ReadsAtMost};
 ghost use Rattle.std.specs.Io.KnownBytes.{Consumes, IsAtEnd, Keeps, ReadConsumes};
-ghost use Rattle.pcap_stream.specs.Counts.{CountsFaults, GoesOnBy};
-ghost use Rattle.pcap_stream.specs.Supply.{GivesUp, Spends, untouched};
+ghost use Rattle.pcap.specs.Counts.{CountsFaults, GoesOnBy};
+ghost use Rattle.pcap.specs.Supply.{GivesUp, Spends, untouched};
 ghost use Rattle.pcapng_input.specs.Adapter.{IsFetched};
 ghost use Rattle.pcapng_input.specs.Block.{longest_block};
 ghost use Rattle.pcapng_input.specs.Stops.{StopsFor};
@@ -18,7 +18,7 @@ ghost use Rattle.pcapng_input.specs.Stops.{StopsFor};
 use crate::block::EMPTY_BLOCK;
 use crate::room::lengthen;
 use crate::stop::Stop;
-use pcap_stream::{DeviceFault, Input};
+use pcap::stream::{DeviceFault, Input};
 use std::alloc::{AllocError, Global};
 use std::marker::Model;
 

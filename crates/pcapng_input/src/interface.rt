@@ -10,7 +10,7 @@ ghost use Rattle.pcapng_input.specs.Interface.{described, name_told, resolution_
 use crate::fault::BlockFault;
 use crate::number::{number2, number4, number8};
 use crate::option::{are_whole, value_of};
-use pcap_io::Order;
+use pcap::text::Order;
 
 /// The option that names an interface.
 const NAME: u16 = 2;

@@ -4,7 +4,7 @@
 //! capture of a whole switch may have interfaces that aren't Ethernet. "The packet before" of a simple packet block is the last
 //! one that is taken, in any section.
 ghost use Rattle.std.specs.Prelude.{◌≡◌, ◌≤◌, length, drop, IfOk, IfSome};
-ghost use Rattle.pcap_io.specs.Record.{IsWithinLimits, last_moment, longest};
+ghost use Rattle.pcap.specs.Record.{IsWithinLimits, last_moment, longest};
 ghost use Rattle.pcapng_input.specs.Meaning.{IsMeantWithinLimits, behind_octets, block_meaning, head_in};
 ghost use Rattle.pcapng_input.specs.Meaning.{head_size, interface_in, interface_named, is_outbound};
 ghost use Rattle.pcapng_input.specs.Meaning.{packet_in, packet_meaning, record_meaning, section_in};
@@ -19,7 +19,7 @@ use crate::packet::{
     PacketHead, SIMPLE_HEAD, TIMED_HEAD, enhanced_head, is_outbound_in, obsolete_head,
     packet_record, simple_head,
 };
-use pcap_io::Record;
+use pcap::text::Record;
 
 /// The interfaces of a section at most.
 const MOST_INTERFACES: usize = 4096;

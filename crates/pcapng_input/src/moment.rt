@@ -1,6 +1,6 @@
 //! Moments.
 ghost use Rattle.std.specs.Prelude.{◌≡◌, ◌<◌, ◌/◌, ◌^◌, ◌*◌, ◌-◌, IfSome, ◌≤◌};
-ghost use Rattle.pcap_io.specs.Record.{last_moment};
+ghost use Rattle.pcap.specs.Record.{last_moment};
 ghost use Rattle.pcapng_input.specs.Moments.{offset_moment, ticks_in_nanoseconds};
 
 /// A second in nanoseconds.

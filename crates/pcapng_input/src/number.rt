@@ -1,9 +1,9 @@
 //! Numbers in the byte order of a section.
 ghost use Rattle.std.specs.Prelude.{◌≡◌, ◌≤◌, length};
-ghost use Rattle.pcap_io.specs.Style.{number_of};
+ghost use Rattle.pcap.specs.Style.{number_of};
 
 use byteorder::{BigEndian, ByteOrder, LittleEndian};
-use pcap_io::Order;
+use pcap::text::Order;
 
 /// The number in the first 2 octets.
 pub fn number2(order: Order, text: &[u8]) -> u16

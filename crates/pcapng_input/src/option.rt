@@ -4,7 +4,7 @@ ghost use Rattle.pcapng_input.specs.Options.{block_options, next_option, option_
 ghost use Rattle.pcapng_input.specs.Seen.{IsShorterOption, block_option_seen};
 
 use crate::number::number2;
-use pcap_io::Order;
+use pcap::text::Order;
 use std::marker::Model;
 
 /// The octets in front of an option's value.

@@ -6,7 +6,7 @@
 //! length than four octets, which Wireshark refuses, since the draft gives them no meaning. How many are left out a check
 //! tells, and a run doesn't: what it writes is of the packets that are taken.
 ghost use Rattle.std.specs.Prelude.{◌≡◌, ◌≤◌, length, option_map, IfOk, IfSome};
-ghost use Rattle.pcap_io.specs.Record.{IsWithinLimits, last_moment};
+ghost use Rattle.pcap.specs.Record.{IsWithinLimits, last_moment};
 ghost use Rattle.pcapng_input.specs.Packet.{enhanced_head, is_outbound_by, is_outbound_in, moment_by};
 ghost use Rattle.pcapng_input.specs.Packet.{obsolete_head, packet_record, selected_record, simple_head, timed_head};
 
@@ -15,7 +15,7 @@ use crate::interface::Interface;
 use crate::moment::{offset_moment, ticks_in_nanoseconds};
 use crate::number::{number2, number4};
 use crate::option::value_of;
-use pcap_io::{LONGEST, Order, Record};
+use pcap::text::{LONGEST, Order, Record};
 
 /// The link type of Ethernet, the one that is read.
 const ETHERNET: u16 = 1;

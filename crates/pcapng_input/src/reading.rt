@@ -1,7 +1,7 @@
 //! What one more step brings an adapted input to.
 ghost use Rattle.std.specs.Prelude.{◌≡◌, ◌≤◌, ◌<◌, ◌+◌, ◌-◌, [], false, length, take, IfOk, OnErr};
 ghost use Rattle.std.specs.Io.KnownBytes.{Keeps};
-ghost use Rattle.pcap_stream.specs.Supply.{Spends};
+ghost use Rattle.pcap.specs.Supply.{Spends};
 ghost use Rattle.pcapng_input.specs.Adapted.{Begun, Passing, Within, is_of_one};
 ghost use Rattle.pcapng_input.specs.State.{IsLess, IsLongIn, IsPart, IsPlaced, IsSound, IsTaken};
 ghost use Rattle.pcapng_input.specs.State.{Leads, held_settled, stand_of, state_settled, wanted_size};
@@ -19,8 +19,8 @@ use crate::ready::Ready;
 use crate::settle::{Settled, settle, wanted};
 use crate::state::State;
 use crate::stop::Stop;
-use pcap_io::{Order, global_header};
-use pcap_stream::Input;
+use pcap::stream::Input;
+use pcap::text::{Order, global_header};
 
 /// The octets by which the format is told.
 const MAGIC: usize = 4;

@@ -1,11 +1,11 @@
 //! Octets that are ready to be given.
 ghost use Rattle.std.specs.Prelude.{◌≡◌, ◌≤◌, ◌<◌, ◌+◌, ◌++◌, [], length, nat_eq, take, IfNone, IfOk, IfSome, OnErr, OnOk};
-ghost use Rattle.pcap_io.specs.Record.{IsWithinLimits, longest};
-ghost use Rattle.pcap_io.specs.Written.{written_record};
+ghost use Rattle.pcap.specs.Record.{IsWithinLimits, longest};
+ghost use Rattle.pcap.specs.Written.{written_record};
 
 use crate::room::lengthen;
-use pcap_io::{RECORD_HEADER_LENGTH, Record, record_head};
-use pcap_stream::put_behind;
+use pcap::stream::put_behind;
+use pcap::text::{RECORD_HEADER_LENGTH, Record, record_head};
 use std::alloc::{AllocError, Global};
 use std::marker::Model;
 

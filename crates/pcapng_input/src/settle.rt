@@ -1,7 +1,7 @@
 //! What is made of the octets that were read of a block.
 ghost use Rattle.std.specs.Prelude.{◌≡◌, ◌≤◌, ◌<◌, ◌+◌, ◌^◌, [], length, IfErr, OnErr, OnOk};
-ghost use Rattle.pcap_io.specs.Record.{IsWithinLimits};
-ghost use Rattle.pcap_io.specs.Written.{written_record};
+ghost use Rattle.pcap.specs.Record.{IsWithinLimits};
+ghost use Rattle.pcap.specs.Written.{written_record};
 ghost use Rattle.pcapng_input.specs.Block.{longest_block, order_at};
 ghost use Rattle.pcapng_input.specs.Classic.{found_text};
 ghost use Rattle.pcapng_input.specs.Context.{IsStepError, IsTakenAs};
@@ -16,7 +16,7 @@ use crate::interface::Selection;
 use crate::meaning::BlockMeaning;
 use crate::number::number4;
 use crate::ready::Ready;
-use pcap_io::{Order, Record, record_head};
+use pcap::text::{Order, Record, record_head};
 use std::alloc::AllocError;
 
 /// What is made of the octets that were read of a block.

@@ -1,6 +1,6 @@
 //! Where an adapted input stands.
 use crate::fault::PcapngFault;
-use pcap_io::Order;
+use pcap::text::Order;
 
 /// Where an adapted input stands.
 #[derive(Clone, Copy)]

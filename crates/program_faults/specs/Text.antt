@@ -1,6 +1,6 @@
 -- A text that is read from an input, in so many reads at most. It states no standard.
 use Rattle.std.specs.Prelude.{◌≡◌, ◌≤◌, ◌⊎◌, ℕ, List, length, Option, IfSome, Result, Ok, Err}
-use Rattle.pcap_stream.specs.Counts.{GoesOnBy}
+use Rattle.pcap.specs.Counts.{GoesOnBy}
 use Rattle.program_faults.specs.declared.text.TextFault.{TextFault}
 use Rattle.program_faults.specs.declared.text.TextFault.TheVariants as fault
 

@@ -11,6 +11,11 @@
 //! `SystemFault` has the number that the system told. For every input, a text read is all that it tells it had left, in at most
 //! so many reads; Read is answered only where a read failed or all reads were made.
 //!
+//! Proved besides:
+//! - A `SystemFault` has the number that the system told: `SystemFault::of`. It is of too many open files where that is
+//!   24: `SystemFault::is_of_open_files`.
+//! - What was printed is lost where that failed for another reason than that its reader went away: `is_lost`.
+//!
 //! Why it is so: this stands below the runs over streams and not in `text_calls` above them, so the crate that opens files waits
 //! neither for `stream_run` nor for `text_calls` to be proved.
 #![tactic(auto)]

@@ -3,7 +3,7 @@ ghost use Rattle.std.specs.Prelude.{◌≡◌, IfOk, IfSome, OnOk};
 ghost use Rattle.std.specs.Io.KnownBytes.{IsAtEnd};
 ghost use Rattle.program_faults.specs.Text.{GivesUp, GoesOnByAtMost, MatchRead};
 
-use pcap_stream::Input;
+use pcap::stream::Input;
 use std::alloc::Global;
 use thiserror::Error;
 

@@ -5,8 +5,8 @@ use Rattle.std.proofs.lemmas.List.Elements.{All-push}
 use Rattle.std.proofs.lemmas.Slice.Zip.{all_zipped_more}
 use Rattle.std.specs.List.{AllZip}
 use Rattle.std.specs.Io.KnownBytes.{Keeps, append_known}
-use Rattle.pcap_stream.specs.Block.{Block, told}
-use Rattle.pcap_stream.specs.Sink.{Drain}
+use Rattle.pcap.specs.Block.{Block, told}
+use Rattle.pcap.specs.Sink.{Drain}
 use Rattle.program_files.specs.Held.{IsHeld}
 
 -- what was written to outputs, and what files have

@@ -7,7 +7,7 @@ use Rattle.std.specs.Io.KnownBytes.{prepend_known}
 use Rattle.std.specs.declared.io.buffered.BufReader.{BufReader}
 use Rattle.std.proofs.lemmas.List.{take_more}
 use Rattle.std.proofs.lemmas.Slice.Zip.{all_zipped_more}
-use Rattle.pcap_stream.specs.Source.{Stream}
+use Rattle.pcap.specs.Source.{Stream}
 use Rattle.pcapng_input.specs.Adapted.{told_text}
 use Rattle.pcapng_input.specs.Adapter.{Adapter, told, told_octets}
 use Rattle.pcapng_input.specs.declared.interface.Selection.{Selection}

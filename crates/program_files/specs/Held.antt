@@ -5,8 +5,8 @@
 use Rattle.std.specs.Prelude.{◌≡◌, ℕ, List, map, All, Option}
 use Rattle.std.specs.List.{AllZip}
 use Rattle.std.specs.Io.KnownBytes.{Keeps}
-use Rattle.pcap_stream.specs.Block.{Block, told}
-use Rattle.pcap_stream.specs.Sink.{Drain}
+use Rattle.pcap.specs.Block.{Block, told}
+use Rattle.pcap.specs.Sink.{Drain}
 
 -- the octets of each file, where it tells them
 pub record Held : Type 0 where

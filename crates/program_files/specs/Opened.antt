@@ -5,7 +5,7 @@ use Rattle.std.specs.Prelude.{◌≡◌, ℕ, List, Option, option_map}
 use Rattle.std.specs.List.{AllZip}
 use Rattle.std.specs.Borrow.{Bor}
 use Rattle.command_line.specs.Capture.{interface_of}
-use Rattle.pcap_stream.specs.Source.{Stream}
+use Rattle.pcap.specs.Source.{Stream}
 use Rattle.pcapng_input.specs.Adapted.{told_text}
 use Rattle.pcapng_input.specs.declared.interface.Selection.{Selection}
 use Rattle.program_files.specs.Asked.{IsAsked}

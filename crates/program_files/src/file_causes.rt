@@ -1,6 +1,6 @@
 //! Files that a line gave up at, looked at once more.
-use file_kind::{Head, peek};
-use pcap_stream::StdInput;
+use pcap::kind::{Head, peek};
+use pcap::stream::StdInput;
 use program_faults::SystemFault;
 use std::fs;
 use std::io::{self, Read};

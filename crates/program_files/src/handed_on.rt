@@ -5,15 +5,15 @@
 ghost use Rattle.std.specs.Prelude.{◌≡◌, [], All, IfOk, IfSome, length, map, true};
 ghost use Rattle.std.specs.Io.KnownBytes.{Keeps};
 ghost use Rattle.std.specs.List.{AllZip};
-ghost use Rattle.pcap_stream.specs.Block.{Block, told};
-ghost use Rattle.pcap_stream.specs.Sink.{Drain};
+ghost use Rattle.pcap.specs.Block.{Block, told};
+ghost use Rattle.pcap.specs.Sink.{Drain};
 ghost use Rattle.program_files.specs.Held.{AreHandedOn, AreHeld, IsHeld, handed_on, written};
 
 use crate::failed_outputs::{FailedOutput, FailedOutputs};
 use crate::outputs::{OutputSums, Outputs, PartRecordFile, Written};
 use arrayvec::ArrayVec;
-use octet_sum::OctetSum;
-use pcap_stream::Sink;
+use octet_sums::fletcher::OctetSum;
+use pcap::stream::Sink;
 use program_faults::{Failure, OutputFile};
 use std::alloc::{AllocError, Global};
 use std::io::Write;

@@ -5,7 +5,7 @@
 //! whose name is digits is taken by its number.
 ghost use Rattle.std.specs.Prelude.{◌≡◌, ◌<◌, ◌^◌, [], None, All, IfOk, IfSome, length, option_map};
 ghost use Rattle.std.specs.Io.Buffered.{reader_remaining};
-ghost use Rattle.pcap_stream.specs.Source.{New, Stream, most_left};
+ghost use Rattle.pcap.specs.Source.{New, Stream, most_left};
 ghost use Rattle.pcapng_input.specs.Adapter.{told_octets};
 ghost use Rattle.program_files.specs.Asked.{IsAsked};
 ghost use Rattle.program_files.specs.Device.{left_in};
@@ -14,9 +14,9 @@ ghost use Rattle.program_files.specs.declared.inputs.Device.{Device as AnyDevice
 
 use crate::outputs::path_of;
 use command_line::{STANDARD_INPUT, capture_name};
-use file_kind::{FileKind, Peeked, peek};
 use part_record::CountInput;
-use pcap_stream::{Source, StdInput};
+use pcap::kind::{FileKind, Peeked, peek};
+use pcap::stream::{Source, StdInput};
 use pcapng_input::{CaptureInput, Selection};
 use program_faults::{Failure, OutputFile, WorkedFailure, read_text};
 use std::alloc::{AllocError, Global};

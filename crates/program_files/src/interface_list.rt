@@ -1,7 +1,7 @@
 //! The interfaces that a pcapng capture describes, for who names one that isn't there.
 use crate::file_causes::head_of_file;
-use file_kind::FileKind;
-use pcap_io::Order;
+use pcap::kind::FileKind;
+use pcap::text::Order;
 use std::alloc::{AllocError, Global};
 use std::fs;
 use std::io::{BufReader, Read};

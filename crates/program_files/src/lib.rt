@@ -11,7 +11,13 @@
 //! only where as many as there were hold nothing back, and then their files hold all that was written to them. What is said of
 //! octets is said wherever files tell theirs; what a file of the system, a pipe or a terminal holds isn't proved.
 //!
-//! Why it is so: the program's work on files stands here, in `runs_on_files`, `merge_on_files` and `tep_program`, and
+//! Proved besides:
+//! - A text that was read is what some file had left, where it tells that: `read_file`. One that isn't named is empty:
+//!   `read_if_given`.
+//! - How many files are open at once, at most, by how many are read and of how many ports outputs are written:
+//!   `files_at_once`.
+//!
+//! Why it is so: the program's work on files stands here and in the crates of single commands, as `runs_on_files`, and
 //! `text_calls` knows octets alone. The system's files tell a contract nothing of what they hold, so what is said of octets is
 //! said of all files that do: the code is one for both.
 #![tactic(auto)]

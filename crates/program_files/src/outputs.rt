@@ -3,16 +3,16 @@
 //! All are opened before the first is emptied. Where the folder doesn't exist the first of them can't be written: status 3, and
 //! nothing else stands on disk.
 ghost use Rattle.std.specs.Prelude.{◌≡◌, IfOk, length};
-ghost use Rattle.pcap_stream.specs.Block.{told};
+ghost use Rattle.pcap.specs.Block.{told};
 ghost use Rattle.program_files.specs.Held.{AreHeld, written};
 
 use crate::found_files::FoundFiles;
 use crate::names::Names;
 use crate::output_device::OutputDevice;
 use arrayvec::ArrayVec;
-use octet_sum::OctetSum;
+use octet_sums::fletcher::OctetSum;
 use part_record::{MOST_PORTS, SumOutput};
-use pcap_stream::{BlockOutput, Sink, StdOutput};
+use pcap::stream::{BlockOutput, Sink, StdOutput};
 use program_faults::{Failure, OutputFile};
 use std::alloc::{AllocError, Global};
 use std::fs::{self, OpenFile, OpenOptions};

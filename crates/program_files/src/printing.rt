@@ -1,5 +1,5 @@
 //! What is printed on standard output.
-use json_forms::{Kind, objects_of};
+use json_lines::kinds::{Kind, objects_of};
 use program_faults::{Failure, OutputFile, is_lost};
 use std::io::{self, Write};
 

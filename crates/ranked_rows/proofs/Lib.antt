@@ -2,3 +2,4 @@ pub mod Lists
 pub mod Places
 pub mod Numbering
 pub mod Shown
+pub mod Merging

@@ -5,13 +5,14 @@ use Rattle.std.proofs.lemmas.List.{drop_all, drop_at, get_or_append_left, get_or
 use Rattle.std.proofs.lemmas.List.Edits.{insert_end, length-insert}
 use Rattle.std.proofs.lemmas.List.Elements.{All-head, All-push, All-tail, All-weaker, Contains-append_left, Contains-push}
 use Rattle.std.proofs.lemmas.List.Sorted.{All-permutation, Contains-permutation, IsPermutation-insert, IsPermutation-sym, IsPermutation-trans}
-use Rattle.std.proofs.Math.Seq.{get_or-append_seam}
+use Rattle.std.proofs.Math.Seq.{get_or-append_seam, take-suc}
 use Rattle.std.specs.List.{All, Contains, insert}
 use Rattle.std.specs.List.Sorted.{IsPartitionPoint, IsPartitionedBy, IsPermutation}
-use Rattle.ranked_rows.specs.Rows.{AreRising, AreRisingFrom, IsNumbering, IsPlaceOf, row_at, row_of, rows_by, stands_before, with_counts}
+use Rattle.ranked_rows.specs.Rows.{AreRising, AreRisingFrom, IsNumbering, IsPlaceOf, Rows, counted, counted_all, row_at, row_of, rows_by, stands_before, with_counts}
 use Rattle.ranked_rows.specs.declared.row.Row.{Row}
 use Rattle.ranked_rows.proofs.Lists.{drop_entered, take_entered}
 use Rattle.ranked_rows.proofs.Places.{never_falls, rises, rising_at}
+use Rattle.ranked_rows.proofs.Shown.{counted_append}
 
 -- ---- numbers alone
 
@@ -396,3 +397,20 @@ module _ {K C : Type 0} (rank : K → ℕ) where
         let set = slice_set rows n v in
         let long : length (rows_by set order) ≤ most = omega (arith, few, is.many, length_by set order (numbers_set rows order n v is).inside) in
         ap (drop most) (more_by rows order n d rising is inside same) ∙ drop_all most (rows_by set order) long
+
+  -- ---- one number after another
+
+  module _ (joined : C → C → C) (none : C) where
+    abbrev told : Rows K C → List (Row K C) → Rows K C
+    told table rows = counted_all rank joined none table rows
+
+    pub counted_next : (rows : List (Row K C)) (order : List ℕ) (i n : ℕ) (row : Row K C) (start now new : Rows K C) → i < length order → n ≡ get_or order i n → n < length rows → row ≡ get_or rows n row
+        → now ≡ told start (rows_by rows (take i order)) → new ≡ counted rank joined none now row.key row.counts → new ≡ told start (rows_by rows (take (suc i) order))
+    counted_next rows order i n row start now new inside is inside_n at so more =
+        let before = take i order in
+        let one : row_at rows n ≡ row ∷ [] = one_of rows n row inside_n ∙ ap (λ (x : Row K C). x ∷ []) (sym at) in
+        let next : take (suc i) order ≡ before ++ n ∷ [] = take-suc order i n inside ∙ ap (λ (m : ℕ). before ++ m ∷ []) (sym is) in
+        more ∙ ap (λ (t : Rows K C). counted rank joined none t row.key row.counts) so
+        ∙ sym (counted_append rank joined none start (rows_by rows before) (row ∷ []))
+        ∙ ap (told start) (sym (by_more rows before n row one))
+        ∙ ap (λ (l : List ℕ). told start (rows_by rows l)) (sym next)

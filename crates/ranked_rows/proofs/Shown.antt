@@ -1,10 +1,16 @@
 -- The first rows of a map, as more is counted.
-use Rattle.std.proofs.Common.{◌≡◌, ◌∙◌, ap, sym, refl, ℕ, zero, suc, Bool, true, false, cond, nat_lt, List, [], ◌∷◌, take, drop, arith}
+use Rattle.std.proofs.Common.{◌≡◌, ◌∙◌, ap, sym, refl, ℕ, zero, suc, Bool, true, false, cond, nat_lt, List, [], ◌∷◌, ◌++◌, take, drop, arith}
 use Rattle.std.proofs.Math.Seq.{drop-nil, take-nil}
 use Rattle.std.proofs.lemmas.List.{take-take}
-use Rattle.ranked_rows.specs.Rows.{Rows, all_counts, counted_all, counted_in, no_rows, row_of, shown, total, with_counts}
+use Rattle.ranked_rows.specs.Rows.{Rows, all_counts, counted, counted_all, counted_in, no_rows, row_of, shown, total, with_counts}
 use Rattle.ranked_rows.specs.declared.row.Row.{Row}
 use Rattle.ranked_rows.proofs.Lists.{drop_taken}
+
+-- what many rows tell behind what others do
+pub counted_append : {K C : Type 0} (rank : K → ℕ) (joined : C → C → C) (none : C) (table : Rows K C) (xs ys : List (Row K C))
+    → counted_all rank joined none table (xs ++ ys) ≡ counted_all rank joined none (counted_all rank joined none table xs) ys
+counted_append rank joined none table [] ys = refl
+counted_append rank joined none table (x ∷ xs) ys = counted_append rank joined none (counted rank joined none table x.key x.counts) xs ys
 
 -- what counts come to together
 pub record AreSums {C : Type 0} (joined : C → C → C) (none : C) : Type 0 where
@@ -34,7 +40,7 @@ module _ {K C : Type 0} (rank : K → ℕ) (joined : C → C → C) (none : C) (
   abbrev sum : List (Row K C) → C
   sum rows = total joined none rows
 
-  sum_none : (rows : List (Row K C)) → joined (sum rows) none ≡ sum rows
+  pub sum_none : (rows : List (Row K C)) → joined (sum rows) none ≡ sum rows
   sum_none [] = sums.nothing
   sum_none (row ∷ rows) = sums.whole row.counts (sum rows)
 
@@ -46,7 +52,7 @@ module _ {K C : Type 0} (rank : K → ℕ) (joined : C → C → C) (none : C) (
   sum_apart (suc n) (row ∷ rows) = sum_apart n rows
 
   -- with more of a key
-  sum_more : (key : K) (counts : C) (rows : List (Row K C)) → sum (with_counts rank joined key counts rows) ≡ joined (sum rows) (joined counts none)
+  pub sum_more : (key : K) (counts : C) (rows : List (Row K C)) → sum (with_counts rank joined key counts rows) ≡ joined (sum rows) (joined counts none)
   sum_more key counts [] = sym (with_nothing counts)
   sum_more key counts (row ∷ rows) = by (nat_lt (rank row.key) (rank key)) (nat_lt (rank key) (rank row.key)) (sum_more key counts rows)
     where
@@ -90,7 +96,7 @@ module _ {K C : Type 0} (rank : K → ℕ) (joined : C → C → C) (none : C) (
   none_shown : (n : ℕ) → no_rows {K = K} none ≡ shown {K = K} joined none n []
   none_shown n = λ i. record { rows = sym (take-nil n) i; others = ap sum (sym (drop-nil n)) i }
 
-  shown_all : (rows more : List (Row K C)) → counted_all rank joined none (shown joined none 4096 rows) more ≡ shown joined none 4096 (all_counts rank joined rows more)
+  pub shown_all : (rows more : List (Row K C)) → counted_all rank joined none (shown joined none 4096 rows) more ≡ shown joined none 4096 (all_counts rank joined rows more)
   shown_all rows [] = refl
   shown_all rows (row ∷ more) =
       ap (λ (table : Rows K C). counted_all rank joined none table more) (shown_more 4096 rows row.key row.counts) ∙ shown_all (with_counts rank joined row.key row.counts rows) more

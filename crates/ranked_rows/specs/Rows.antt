@@ -1,7 +1,7 @@
 -- Tables of what is counted of keys, which are ordered by their ranks. It states no standard.
 --     with_counts, all_counts      what is counted of all keys, as a finite map in the order of their ranks
 --     Rows, shown      its first rows, and what the others come to
---     counted      the same with more of a key
+--     counted, together      the same with more of a key, and with all of another table
 use Rattle.std.specs.Prelude.{◌≡◌, ◌<◌, ◌≤◌, ℕ, suc, Bool, false, nat_lt, if◌then◌else◌, ⊤, List, [], ◌∷◌}
 use Rattle.std.specs.Prelude.{length, take, drop, slice_index_or, Option, None, Some}
 use Rattle.std.specs.List.{All, Contains, flat_map}
@@ -66,6 +66,14 @@ counted rank joined none table key counts = counted_in rank joined none 4096 tab
 abbrev pub counted_all : {K C : Type 0} → (K → ℕ) → (C → C → C) → C → Rows K C → List (Row K C) → Rows K C
 counted_all rank joined none table [] = table
 counted_all rank joined none table (row ∷ rows) = counted_all rank joined none (counted rank joined none table row.key row.counts) rows
+
+-- with more of the others
+abbrev pub with_others : {K C : Type 0} → (C → C → C) → Rows K C → C → Rows K C
+with_others joined table counts = record { rows = table.rows; others = joined table.others counts }
+
+-- with all that another table shows
+abbrev pub together : {K C : Type 0} → (K → ℕ) → (C → C → C) → C → Rows K C → Rows K C → Rows K C
+together rank joined none table other = with_others joined (counted_all rank joined none table other.rows) other.others
 
 -- ---- order
 

@@ -1,6 +1,6 @@
 //! Laws over the definitions.
-ghost use Rattle.std.specs.Prelude.{◌≡◌, ℕ, List, []};
-ghost use Rattle.ranked_rows.specs.Rows.{all_counts, counted_all, counted_in, no_rows, shown, with_counts};
+ghost use Rattle.std.specs.Prelude.{◌≡◌, ◌++◌, ℕ, List, []};
+ghost use Rattle.ranked_rows.specs.Rows.{all_counts, counted_all, counted_in, no_rows, shown, together, with_counts};
 ghost use Rattle.ranked_rows.specs.declared.row.Row.{Row as ARow};
 
 use crate::counts::Counts;
@@ -13,4 +13,12 @@ pub fn shows_the_first<K: Ranked, C: Counts>()
         ≡ shown C.joined C.none most (with_counts K.rank C.joined key counts rows) }
     ensures all { (rows : List (ARow K C)) → counted_all K.rank C.joined C.none (no_rows C.none) rows
         ≡ shown C.joined C.none 4096 (all_counts K.rank C.joined [] rows) }
+{}
+
+/// The tables of two parts come together as one table of all that both counted.
+pub fn comes_together<K: Ranked, C: Counts>()
+    ensures { (rows others : List (ARow K C)) → together K.rank C.joined C.none
+        (shown C.joined C.none 4096 (all_counts K.rank C.joined [] rows))
+        (shown C.joined C.none 4096 (all_counts K.rank C.joined [] others))
+        ≡ shown C.joined C.none 4096 (all_counts K.rank C.joined [] (rows ++ others)) }
 {}

@@ -2,12 +2,17 @@
 //!
 //! Use first: a [`RankedRows`] has a row for each key, up to 4,096 of them, and counts what comes of all others together. Which
 //! keys have rows is told by the keys alone, and not by their order: those with the least ranks. What a rank is each key says
-//! ([`Ranked`]), and what counts come to together each kind of them ([`Counts`]).
+//! ([`Ranked`]), and what counts come to together each kind of them ([`Counts`]). It takes all that another one shows
+//! ([`RankedRows::add_all`]).
 //!
 //! Specs to read: `specs/Rows`.
 //!
 //! Proved: a table shows the rows with the least ranks of all that was counted, whatever came first, and what all others come
-//! to (`laws::shows_the_first`).
+//! to (`laws::shows_the_first`). The tables of two parts come together as one table of all that both counted
+//! (`laws::comes_together`).
+//!
+//! Proved besides:
+//! - `add` always counts, since the rooms of all rows are there from `open` on.
 //!
 //! Why it is so: who sends frames chooses addresses, so rows are bounded. The least by their keys have one, and not the first
 //! that came: so a row is told or not whatever the order of the events is, its counts are those of all its events or it has

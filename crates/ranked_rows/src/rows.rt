@@ -1,6 +1,6 @@
 //! Tables.
 ghost use Rattle.std.specs.Prelude.{◌≡◌, IfOk};
-ghost use Rattle.ranked_rows.specs.Rows.{counted, counted_or, no_rows};
+ghost use Rattle.ranked_rows.specs.Rows.{IsNumbering, counted, counted_all, counted_or, no_rows, rows_by, together, with_others};
 
 use crate::counts::Counts;
 use crate::key::Ranked;
@@ -84,6 +84,32 @@ impl<K: Ranked + Copy, C: Counts + Copy> RankedRows<K, C> {
             counts,
         );
         join(&mut self.others, rest);
+    }
+
+    /// Counts what comes of keys that have no row.
+    pub fn add_others(&mut self, counts: C)
+        ensures { self.new ≡ with_others C.joined self.old counts }
+    {
+        self.others = self.others.with(counts);
+    }
+
+    /// Counts all that another table shows.
+    pub fn add_all(&mut self, other: &RankedRows<K, C>)
+        ensures { self.new ≡ together K.rank C.joined C.none self.old other.now }
+    {
+        self.add_rows(other.rows.as_slice(), other.order.as_slice());
+        self.add_others(other.others());
+    }
+
+    /// Counts what the rows of these numbers tell, one after another.
+    fn add_rows(&mut self, rows: &[Row<K, C>], order: &[u16])
+        requires { IsNumbering rows.now order.now }
+        ensures { self.new ≡ counted_all K.rank C.joined C.none self.old (rows_by rows.now order.now) }
+    {
+        for number in order {
+            let row = &rows[usize::from(*number)];
+            self.add(row.key, row.counts);
+        }
     }
 }
 

@@ -1,8 +1,12 @@
-pub mod Laying
-pub mod Indexing
-pub mod Sound
-pub mod Showing
-pub mod Meeting
 pub mod Comparing
+pub mod Counting
+pub mod Indexing
+pub mod Laying
 pub mod Looking
+pub mod Meeting
+pub mod Ranking
+pub mod Showing
+pub mod Sound
+pub mod Summary
+pub mod Telling
 pub mod Texts

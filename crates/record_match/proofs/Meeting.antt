@@ -1,7 +1,7 @@
 -- Records that are received.
 use Rattle.std.proofs.Common.{◌≡◌, ℕ, zero, suc, ◌+◌, ◌<◌, Bool, true, false, not, ◌&&◌, ◌||◌, nat_le, nat_lt, List, [], ◌∷◌, ◌++◌, length, map, get_or, set, refl, sym, ap, ◌∙◌, arith, Option, Some, None}
 use Rattle.std.proofs.lemmas.Bool.{le-leb, lt-leb, ltb-true}
-use Rattle.header_octets.proofs.OctetsLemmas.{is_same-refl}
+use Rattle.wire.proofs.OctetsLemmas.{is_same-refl}
 use Rattle.record_match.specs.Laws.{AreLater, EachIsTold, HeldIsEnough, ItselfIsWhole, NoneIsLeft, is_any_known}
 use Rattle.record_match.specs.Match.{Record, Sent, as_sent, is_known, is_met_by, is_within, lonely_among, met, met_all, received_count, taken}
 use Rattle.record_match.specs.Settled.{sent_moment}

@@ -2,8 +2,8 @@
 use Rattle.std.proofs.Common.{◌≡◌, ℕ, ◌+◌, ◌-◌, ◌<◌, ◌≤◌, min, max, eqb, ◌==◌, if◌then◌else◌, Bool, true, false, not, nat_lt, nat_le, ◌&&◌, List, [], ◌∷◌, length, get_or, set, take, drop, refl, sym, ap, ◌∙◌, subst, arith}
 use borrow.Author.Tests.{leb-true, ltb-false, ltb-true}
 use Rattle.std.proofs.lemmas.Bool.{eqb-true}
-use Rattle.header_octets.specs.Octets.{is_same}
-use Rattle.header_octets.proofs.OctetsLemmas.{is_same-true}
+use Rattle.wire.specs.Octets.{is_same}
+use Rattle.wire.proofs.OctetsLemmas.{is_same-true}
 use Rattle.record_match.specs.Bucket.{bucket_of}
 use Rattle.record_match.specs.Match.{Record, Sent, is_met_by, is_within, taken}
 use Rattle.record_match.specs.Window.{Window, has_room, has_space, is_counted, is_first_over, octets_of, still_held}

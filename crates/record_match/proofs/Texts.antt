@@ -4,8 +4,8 @@ use Rattle.std.proofs.lemmas.Bool.{eq-eqb}
 use Rattle.std.proofs.Math.Seq.{take-add}
 use Rattle.byteorder.specs.Endian.{little_from, little_number}
 use Rattle.byteorder.specs.Numbers.{little_from-cons, little_from-take}
-use Rattle.header_octets.specs.Octets.{IsText, is_same}
-use Rattle.header_octets.proofs.OctetsLemmas.{IsText-drop}
+use Rattle.wire.specs.Octets.{IsText, is_same}
+use Rattle.wire.proofs.OctetsLemmas.{IsText-drop}
 
 -- octets whose number is the same are the same
 words-same : (n : ℕ) (a b : List ℕ) → IsText a → IsText b → n ≤ length a → n ≤ length b → little_from 0 n a ≡ little_from 0 n b → take n a ≡ take n b

@@ -1,8 +1,11 @@
 pub mod Bucket
 pub mod Clock
 pub mod Compared
+pub mod Delays
 pub mod Kept
 pub mod Laws
+pub mod Lengths
 pub mod Match
-pub mod Window
 pub mod Settled
+pub mod TablesLaws
+pub mod Window

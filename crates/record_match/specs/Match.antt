@@ -5,7 +5,7 @@
 --     matched      the same for all that is received, in a row
 --     lonely       those that are received and were not sent
 use Rattle.std.specs.Prelude.{ℕ, ◌+◌, nat_le, ◌&&◌, ◌||◌, not, if◌then◌else◌, Bool, true, false, List, [], ◌∷◌, map}
-use Rattle.header_octets.specs.Octets.{is_same}
+use Rattle.wire.specs.Octets.{is_same}
 
 -- a record: its moment in nanoseconds, and its octets
 pub record Record : Type 0 where

@@ -15,6 +15,20 @@
 //! [`laws`] a list that is compared with itself is received whole, each record that is received is one that was sent or
 //! lonely, none that is lonely is one that wasn't received, and what a window holds is enough to tell.
 //!
+//! Proved besides:
+//! - A record that is received is told to be the first that was sent at most so many nanoseconds before, octet for
+//!   octet, and wasn't received yet, or none; what a window holds then is exactly told: `Window::send`, `receive`.
+//! - A record that is sent is refused exactly where more than 1,048,576 records or 268,435,456 octets would be held,
+//!   from the first that may still be received on, or more than 2^62 of either would be sent in all: `Window::send`.
+//! - How many records of two captures are both is that of the definition over their whole lists, where they come in the
+//!   order of their moments: `Comparison::send`, `receive`.
+//! - Whoever looks on is told once of each record what becomes of it: of each that is received, when it comes, which
+//!   one that was sent it is or that it is alone, with its number; of each that was sent and isn't received, when that
+//!   is settled: `Window::send`, `receive`, `finish`, `Comparison::send`, `receive`, `finish`. What is told of each
+//!   capture stands in its order.
+//! - Where the two clocks differ by a shift, a record is received in time exactly where it is at most so far from the
+//!   moment at which it was sent, earlier or later: `Clock::shifted`.
+//!
 //! Why it is so: octets alone decide what is the same; a hash only says where to look, so it is a plain sum of 64-bit words,
 //! which is cheap. A window knows of each bucket the first and the last record, and of each record the next one of its bucket.
 //! What is proved of these numbers is only that no record between them is looked for; so they may be out of date, and nothing
@@ -30,6 +44,7 @@ mod onlooker;
 mod row;
 mod same;
 mod seen;
+pub mod tables;
 mod window;
 
 pub use clock::Clock;

@@ -1,6 +1,6 @@
 //! Whether two texts are the same.
 ghost use Rattle.std.specs.Prelude.{◌≡◌};
-ghost use Rattle.header_octets.specs.Octets.{is_same};
+ghost use Rattle.wire.specs.Octets.{is_same};
 
 use byteorder::{ByteOrder, LittleEndian};
 

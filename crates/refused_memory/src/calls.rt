@@ -55,8 +55,8 @@ fn make_opened(alloc: Global, name: &str, count: u16) -> Result<Answer, Fail> {
         "ListTables" => openings::tables(alloc, count, false),
         "SharedTables" => openings::tables(alloc, count, true),
         "PortSet" => openings::ports(alloc, count),
-        "Under" => openings::under(alloc, count, inputs::endpoint()),
-        "Under_long" => openings::under(alloc, count, inputs::long_lists()),
+        "Overlay" => openings::under(alloc, count, inputs::endpoint()),
+        "Overlay_long" => openings::under(alloc, count, inputs::long_lists()),
         "EndpointState" => openings::state(alloc, count),
         "Endpoint" => openings::endpoint(alloc, count, inputs::endpoint()),
         "Endpoint_long" => openings::endpoint(alloc, count, inputs::long_lists()),
@@ -77,7 +77,7 @@ fn make_decided(alloc: Global, name: &str, count: u16) -> Result<Answer, Fail> {
             inputs::capture_explained(),
         )),
         "run_bytes" => runs::ran(alloc, count),
-        "run_streams" => runs::streamed(alloc, count),
+        "run" => runs::streamed(alloc, count),
         _ => Err(Fail::new("no such call")),
     }
 }

@@ -1,7 +1,7 @@
 //! Calls that read and write captures.
 use crate::answer::Answer;
-use pcap_io::{put_header, put_record};
-use pcap_stream::{DeviceFault, Input, Source, StdInput};
+use pcap::stream::{DeviceFault, Input, Source, StdInput};
+use pcap::text::{put_header, put_record};
 use pcapng_input::{CaptureInput, PcapngError, Selection, classic_of};
 use program_faults::{TextFault, read_text};
 use std::alloc::Global;

@@ -2,15 +2,15 @@
 use crate::answer::Answer;
 use crate::endpoints::{opened, settings};
 use crate::inputs;
-use endpoint_state::EndpointState;
+use endpoint_core::state::EndpointState;
 use filter_db::{ListTables, TableRule};
-use frame_view::Vid;
+use overlay::ports::PortSet;
+use overlay::underlay::Overlay;
 use shared_tables::SharedTables;
 use std::alloc::Global;
 use std::test::Fail;
 use test_inputs::memory::request;
-use underlay::Under;
-use vlan_ports::PortSet;
+use wire::ether::Vid;
 
 /// Opens the tables of two segments, in one pool or apart.
 pub(crate) fn tables(alloc: Global, count: u16, are_shared: bool) -> Result<Answer, Fail> {
@@ -50,7 +50,7 @@ pub(crate) fn under(alloc: Global, count: u16, text: &str) -> Result<Answer, Fai
     let parts = settings(alloc, text)?.into_parts();
     request(alloc, count);
     let rules = Vec::new(alloc);
-    Ok(Answer::of(Under::open(alloc, parts.underlay, rules).is_ok(), true))
+    Ok(Answer::of(Overlay::open(alloc, parts.underlay, rules).is_ok(), true))
 }
 
 /// Opens the state of an endpoint.

@@ -1,18 +1,19 @@
 //! Whole runs.
 ghost use Rattle.std.specs.Prelude.{◌≡◌, All, IfOk, None, [], ◌∷◌, length};
-ghost use Rattle.pcap_stream.specs.Source.{New};
+ghost use Rattle.pcap.specs.Source.{New};
 ghost use Rattle.stream_run.specs.Begun.{IsUnread};
 
 use crate::answer::Answer;
 use crate::inputs;
 use crate::texts::printed;
 use capture_run::{RunFault, run_bytes};
+use explanation::sample::sample;
 use explanation::{Values, explain_bytes};
-use pcap_stream::{DeviceFault, Output, Sink, Source, StdInput, WriteFault};
-use sample_run::sample;
+use pcap::stream::{DeviceFault, Output, Sink, Source, StdInput, WriteFault};
+use segment_set::SegmentSet;
 use std::alloc::{AllocError, Global};
 use std::test::Fail;
-use stream_run::{Captures, Outputs, StreamFault, Unwatched, run_streams};
+use stream_run::{Captures, Job, Outputs, ReadTexts, StreamFault, TakesAll, Unwatched, read_texts};
 use test_inputs::memory::request;
 
 /// Runs the built-in sample.
@@ -110,6 +111,33 @@ fn told(end: Result<(), StreamFault>, lines: usize, packets: usize) -> Answer {
     }
 }
 
+/// Runs over these captures.
+fn run_over<'a>(
+    alloc: Global,
+    captures: &mut Captures<Octets<'a>>,
+    outputs: &mut Outputs<Counted>,
+) -> Result<(), StreamFault>
+    requires sinks { length outputs.old.ports ≡ length captures.old.ports.items }
+    requires ports { All IsUnread captures.old.ports.items }
+    requires underlay { IsUnread captures.old.underlay }
+{
+    let settings_text = inputs::small().as_bytes();
+    let changes_text = inputs::changes().as_bytes();
+    let ReadTexts { settings, changes } = match read_texts(alloc, settings_text, changes_text) {
+        Ok(read) => read,
+        Err(fault) => return Err(StreamFault::Run(fault)),
+    };
+    let all = SegmentSet::all();
+    let job = Job {
+        settings_text,
+        changes_text,
+        settings,
+        changes: changes.as_slice(),
+        segments: &all,
+    };
+    stream_run::run(alloc, job, captures, outputs, &mut TakesAll, &mut Unwatched)
+}
+
 /// Of a run over these captures.
 fn streamed_over<'a>(
     alloc: Global,
@@ -122,14 +150,7 @@ fn streamed_over<'a>(
 {
     let mut captures = captures;
     let mut outputs = outputs;
-    let end = run_streams(
-        alloc,
-        inputs::small().as_bytes(),
-        inputs::changes().as_bytes(),
-        &mut captures,
-        &mut outputs,
-        &mut Unwatched,
-    );
+    let end = run_over(alloc, &mut captures, &mut outputs);
     told(
         end,
         outputs.decisions.octets,

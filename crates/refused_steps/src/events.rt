@@ -1,9 +1,9 @@
 //! Frames, packets and segments, each another one than the one before.
-use frame_view::Vid;
-use ip_udp_view::Addr;
+use overlay::underlay::Tunnels;
 use overlay_config::NewSegment;
-use underlay::Tunnels;
-use vxlan_head::Vni;
+use wire::ether::Vid;
+use wire::ip_udp::Addr;
+use wire::vxlan::Vni;
 
 /// The n-th frame's port and VLAN, by turns.
 pub(crate) fn place_of(n: u8) -> (u8, u8) {

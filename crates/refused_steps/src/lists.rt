@@ -2,8 +2,8 @@
 use crate::events::{broadcast, remote};
 use crate::steps::later;
 use endpoint_core::{Change, ChangeFault, Endpoint, Outlets};
-use frame_view::Vid;
 use overlay_config::TimedChange;
+use wire::ether::Vid;
 
 /// How many remotes each list may have, by the settings.
 const MOST: u8 = 40;
@@ -85,7 +85,7 @@ fn reached(endpoint: &mut Endpoint, inlet: &Inlet, places: &mut Outlets) -> usiz
         return 0;
     }
     let now = later(endpoint);
-    let _course = endpoint.take_frame(now, inlet.port, 18, &octets, places);
+    let _forwarding = endpoint.take_frame(now, inlet.port, 18, &octets, places);
     places.as_slice().len()
 }
 

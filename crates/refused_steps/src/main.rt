@@ -4,7 +4,7 @@
 //! lists of up to 40 remotes grow, shrink, come and go, and each answer is told. With `no_steps` and `no_lists` the same is
 //! opened, and no step taken.
 //!
-//! Read first: `steps`, steps of every kind, and `lists`. `tests/refused_steps.sh` runs the program while the request of a fixed
+//! Read first: `steps`, steps of every kind, and `lists`. `tests/code/refused_steps.sh` runs the program while the request of a fixed
 //! number is refused, and has that number be the next one when the endpoint's steps begin. Where none is granted behind the
 //! steps, that one wasn't made in them: no step asked for memory.
 //!

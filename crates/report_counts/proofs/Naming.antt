@@ -5,8 +5,8 @@ use Rattle.std.specs.List.{position_from}
 use Rattle.std.proofs.lemmas.Bool.{cond-true}
 use Rattle.std.proofs.lemmas.Iterator.Adapters.{position_from-zero}
 use Rattle.std.proofs.lemmas.List.{length-take-le, take_at, take_min}
-use Rattle.header_octets.specs.Octets.{is_same}
-use Rattle.header_octets.proofs.OctetsLemmas.{is_same-refl}
+use Rattle.wire.specs.Octets.{is_same}
+use Rattle.wire.proofs.OctetsLemmas.{is_same-refl}
 use Rattle.report_counts.specs.Outlets.{place_in, row_of}
 
 found_from : {X : Type 0} (p : X → Bool) (i : ℕ) (xs : List X) (x : X) → position_from p i xs ≡ None → p x ≡ true → position_from p i (xs ++ x ∷ []) ≡ Some (i + length xs)

@@ -2,7 +2,7 @@
 -- standard.
 use Rattle.std.specs.Prelude.{ℕ, ◌-◌, ◌==◌, nat_lt, ◌&&◌, if◌then◌else◌, List, [], ◌∷◌, length, take, slice_index, codes}
 use Rattle.std.specs.Prelude.{Option, Some, None, Result, Ok, Err}
-use Rattle.header_octets.specs.Octets.{is_same}
+use Rattle.wire.specs.Octets.{is_same}
 use Rattle.line_words.specs.Words.{word, behind}
 use Rattle.line_words.specs.Numbers.{number_of}
 use Rattle.timeline.specs.declared.source.Source.{Source}

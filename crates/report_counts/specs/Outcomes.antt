@@ -3,9 +3,9 @@ use Rattle.std.specs.Prelude.{ℕ, ◌+◌, ◌==◌, nat_le, nat_lt, Bool, ◌&
 use Rattle.std.specs.Prelude.{slice_index, position, Option, Some, None, is_some, option_map}
 use Rattle.std.specs.List.{filter_map, list_all}
 use Rattle.std.specs.Option.{option_and_then}
-use Rattle.header_octets.specs.Octets.{is_same}
-use Rattle.frame_view.specs.Reason.{name_of, number_of as number_for}
-use Rattle.frame_view.specs.declared.reason.Reason.TheVariants.{TooBig, InnerTagOut}
+use Rattle.wire.specs.Octets.{is_same}
+use Rattle.wire.specs.Reason.{name_of, number_of as number_for}
+use Rattle.wire.specs.declared.ether.reason.Reason.TheVariants.{TooBig, InnerTagOut}
 use Rattle.line_words.specs.Numbers.{number_of}
 use Rattle.part_lines.specs.Words.{words}
 use Rattle.report_counts.specs.declared.outcomes.Leaving.{Leaving}

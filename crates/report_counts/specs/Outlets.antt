@@ -2,7 +2,7 @@
 -- others behind them. It states no standard.
 use Rattle.std.specs.Prelude.{ℕ, ◌==◌, nat_lt, if◌then◌else◌, List, [], ◌∷◌, ◌++◌, length, take, position, slice_index, slice_index_or}
 use Rattle.std.specs.Prelude.{codes, Option, Some, None, unwrap_or}
-use Rattle.header_octets.specs.Octets.{is_same}
+use Rattle.wire.specs.Octets.{is_same}
 use Rattle.report_counts.specs.Tables.{added, added_in, zeros, zero_rows}
 use Rattle.report_counts.specs.declared.outcomes.Passage.{Passage}
 use Rattle.report_counts.specs.declared.outcomes.Passage.TheVariants.{Left, Unsent}

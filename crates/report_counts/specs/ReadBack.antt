@@ -1,9 +1,9 @@
 -- The law of reading: what is written in a decision line is what is read from it. It states no standard.
 use Rattle.std.specs.Prelude.{◌≡◌, ◌<◌, ℕ, ◌^◌, Option, Some, None, Ok}
-use Rattle.frame_view.specs.Reason.{number_of}
-use Rattle.frame_view.specs.declared.reason.Reason.{Reason}
-use Rattle.endpoint_state.specs.Fault.{number_of as cause_of}
-use Rattle.endpoint_state.specs.declared.fault.ChangeFault.{ChangeFault}
+use Rattle.wire.specs.Reason.{number_of}
+use Rattle.wire.specs.declared.ether.reason.Reason.{Reason}
+use Rattle.endpoint_core.specs.Fault.{number_of as cause_of}
+use Rattle.endpoint_core.specs.declared.state.fault.ChangeFault.{ChangeFault}
 use Rattle.endpoint_core.specs.Decision.{Decision}
 use Rattle.endpoint_core.specs.Step.{Decided, Replied}
 use Rattle.timeline.specs.Words.{source_of}

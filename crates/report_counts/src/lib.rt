@@ -13,6 +13,14 @@
 //! ([`drops_read_back`]), and from that of a change whether it was made, or the cause ([`replies_read_back`]). That what stands
 //! behind the number of a reason or a cause is its name isn't looked at.
 //!
+//! Proved besides:
+//! - A line, with or without its line feed, tells exactly what the definition has of its fields, or the first of them
+//!   that is none: `read_line`. Outcomes are handed out one by one, in order: `Outcomes::next_outcome`.
+//! - Each line counts one more at the places that it tells, each count up to 2^64 - 1, and leaves all other counts as
+//!   they were: `ReportCounts::count`. Before the first line nothing is counted: `ReportCounts::new`.
+//! - What is told is what was counted; 0 where there is no such source, outlet, segment, reason, cause or span:
+//!   `came_at`, `left_at`, `segment_at`, `dropped`, `pair` and the others.
+//!
 //! Why it is so: whoever sends chooses addresses, so rows of outlets are bounded, and those that come later count together. A
 //! run that is shown is over and its lines tell when it began and ended, so a first pass finds both moments and the spans are
 //! fixed before the first line is counted.

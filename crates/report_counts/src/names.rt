@@ -1,6 +1,6 @@
 //! The names of outlets.
 ghost use Rattle.std.specs.Prelude.{◌≡◌, ◌≤◌, IfOk, None, [], length, slice_index_or, take, vec_capacity};
-ghost use Rattle.header_octets.specs.Octets.{is_same};
+ghost use Rattle.wire.specs.Octets.{is_same};
 ghost use Rattle.report_counts.specs.Outlets.{place_in, row_of, with_name, with_room};
 
 use crate::outcomes::LONGEST_PLACE;

@@ -3,9 +3,9 @@ ghost use Rattle.std.specs.Prelude.{◌≡◌, ◌<◌, IfSome, MatchOption, Non
 ghost use Rattle.report_counts.specs.Outcomes.{are_outcomes, has_place_length, is_mark, is_outcome, outcome_by, outcome_of};
 ghost use Rattle.report_counts.specs.Outcomes.{outcomes_in, passage_of, reason_named, told};
 
-use frame_view::Reason;
 use line_words::{first_word, number_of};
 use std::marker::Model;
+use wire::ether::Reason;
 
 /// The most octets of a place's text.
 pub(crate) const LONGEST_PLACE: usize = 55;

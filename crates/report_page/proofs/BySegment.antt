@@ -3,7 +3,7 @@ use Rattle.std.proofs.Common.{◌≡◌, ◌∙◌, ap, sym, refl, ℕ, zero, su
 use Rattle.std.proofs.Common.{List, [], ◌∷◌, ◌++◌, take, append_assoc}
 use Rattle.std.specs.List.{flat_map}
 use Rattle.std.proofs.lemmas.Bool.{lt-ltb}
-use Rattle.header_octets.specs.Octets.{is_same}
+use Rattle.wire.specs.Octets.{is_same}
 use Rattle.report_page.specs.Told.{by_segments, is_beside, largest_of, onto_segments, row_where, rows_of, talk_row, word_at}
 
 -- so many of the first segment, and ten of each other

@@ -8,8 +8,8 @@ use Rattle.std.proofs.lemmas.List.{get_or-map, length-map}
 use Rattle.std.proofs.lemmas.List.Elements.{All-from_get_or}
 use Rattle.std.proofs.lemmas.List.Folds.{list_any-append, list_any_none}
 use Rattle.line_words.specs.Places.{IsFirst, LacksFrom}
-use Rattle.header_octets.specs.Octets.{is_same}
-use Rattle.header_octets.proofs.OctetsLemmas.{is_same-true}
+use Rattle.wire.specs.Octets.{is_same}
+use Rattle.wire.proofs.OctetsLemmas.{is_same-true}
 use Rattle.report_page.specs.Lines.{lines_of, lines_where}
 use Rattle.report_page.specs.Senders.{is_wanted, mark_behind, mark_of, moved_among, sends}
 use Rattle.report_page.specs.Told.{has_moved, is_elsewhere, is_move, is_talk, moves_table, moves_told, rows_of, talk_row, talks_of, word_at}

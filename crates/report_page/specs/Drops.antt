@@ -3,16 +3,16 @@ use Rattle.std.specs.Prelude.{ℕ, ◌-◌, ◌==◌, if◌then◌else◌, List,
 use Rattle.std.specs.Prelude.{Option, Some, None}
 use Rattle.std.specs.List.{flat_map}
 use Rattle.std.specs.Borrow.{Bor}
-use Rattle.frame_view.specs.Reason.{name_of, number_of}
-use Rattle.frame_view.specs.declared.reason.Reason.{Reason}
-use Rattle.endpoint_state.specs.Fault.{name_of as cause_name, number_of as cause_number}
-use Rattle.endpoint_state.specs.declared.fault.ChangeFault.{ChangeFault}
-use Rattle.endpoint_state.specs.declared.fault.ChangeFault.TheVariants.{FloodFull, TableFull, PoolFull, SegmentsFull}
+use Rattle.wire.specs.Reason.{name_of, number_of}
+use Rattle.wire.specs.declared.ether.reason.Reason.{Reason}
+use Rattle.endpoint_core.specs.Fault.{name_of as cause_name, number_of as cause_number}
+use Rattle.endpoint_core.specs.declared.state.fault.ChangeFault.{ChangeFault}
+use Rattle.endpoint_core.specs.declared.state.fault.ChangeFault.TheVariants.{FloodFull, TableFull, PoolFull, SegmentsFull}
 use Rattle.report_counts.specs.Tables.{count_in}
 use Rattle.report_counts.specs.declared.counts.ReportCounts.{ReportCounts}
-use Rattle.endpoint_state.specs.declared.faults.TheConstants.{CHANGE_FAULTS}
+use Rattle.endpoint_core.specs.declared.state.faults.TheConstants.{CHANGE_FAULTS}
 use Rattle.report_page.specs.declared.drops.TheConstants.{DROPS_HEAD, REASONS_HEAD, CAUSES_HEAD, DROPS_END}
-use Rattle.frame_view.specs.declared.reasons.TheConstants.{REASONS}
+use Rattle.wire.specs.declared.ether.reasons.TheConstants.{REASONS}
 use Rattle.report_page.specs.declared.reasons.TheConstants.{SENTENCES}
 use Rattle.report_page.specs.declared.series.Kind.TheVariants as kinds
 use Rattle.report_page.specs.OverTime.{number_cell}

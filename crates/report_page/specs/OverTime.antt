@@ -4,7 +4,7 @@ use Rattle.report_counts.specs.Places.{width}
 use Rattle.report_counts.specs.Tables.{most}
 use Rattle.report_counts.specs.declared.counts.ReportCounts.{ReportCounts}
 use Rattle.report_counts.specs.declared.mark.Stretch.{Stretch}
-use Rattle.report_page.specs.declared.series.Kind.TheVariants.{All, Came}
+use Rattle.report_page.specs.declared.series.Kind.TheVariants.{All, Arrival}
 use Rattle.report_page.specs.declared.series.Parted.TheVariants.{Ports, LocalOutlets, RemoteOutlets, Segments}
 use Rattle.report_page.specs.declared.over_time.TheConstants.{TIME_HEAD, CAME_HEAD, LEFT_HEAD, DROPPED_HEAD, SPANS_HEAD, SPANS_END}
 use Rattle.report_page.specs.Picture.{bars_picture, stacked_picture}
@@ -23,7 +23,7 @@ begin_of stretch span = sum_of stretch.first (min most (span * width stretch))
 unfoldable pub span_row : ReportCounts → ℕ → List ℕ
 span_row c span =
     codes "<tr><th scope=\"row\">" then decimal span then codes "</th>" then number_cell (begin_of c.stretch span)
-    then number_cell (number_at c (All Ports) span) then number_cell (number_at c (Came 256) span)
+    then number_cell (number_at c (All Ports) span) then number_cell (number_at c (Arrival 256) span)
     then number_cell (number_at c (All LocalOutlets) span) then number_cell (number_at c (All RemoteOutlets) span)
     then number_cell (number_at c (All Segments) span) then codes "</tr>\n"
 
@@ -31,7 +31,7 @@ span_row c span =
 unfoldable pub over_time : ReportCounts → List ℕ
 over_time c =
     TIME_HEAD.now then decimal (width c.stretch) then codes " ns each.</p>\n"
-    then CAME_HEAD.now then stacked_picture (codes "What came") c (All Ports) (Came 256)
+    then CAME_HEAD.now then stacked_picture (codes "What came") c (All Ports) (Arrival 256)
     then LEFT_HEAD.now then stacked_picture (codes "What left") c (All LocalOutlets) (All RemoteOutlets)
     then DROPPED_HEAD.now then bars_picture (codes "What was dropped") (codes "c") c (All Segments)
     then SPANS_HEAD.now then each (span_row c) 64 then SPANS_END.now

@@ -3,7 +3,7 @@ use Rattle.std.specs.Prelude.{ℕ, ◌==◌, ◌&&◌, if◌then◌else◌, List
 use Rattle.report_counts.specs.Outlets.{name_of, outlet_of}
 use Rattle.report_counts.specs.declared.counts.ReportCounts.{ReportCounts}
 use Rattle.report_page.specs.declared.places.TheConstants.{CAME_HEAD, LEFT_HEAD, PLACES_END}
-use Rattle.report_page.specs.declared.series.Kind.TheVariants.{Came, Left}
+use Rattle.report_page.specs.declared.series.Kind.TheVariants.{Arrival, Left}
 use Rattle.report_page.specs.Escaped.{escaped}
 use Rattle.report_page.specs.OverTime.{number_cell}
 use Rattle.report_page.specs.Picture.{spark_cell}
@@ -19,7 +19,7 @@ unfoldable pub came_row : ReportCounts → ℕ → List ℕ
 came_row c source =
     if slice_index c.sources.events source == 0 then []
     else codes "<tr><th scope=\"row\">" then source_word source then codes "</th>" then number_cell (slice_index c.sources.events source)
-    then spark_cell c (Came source) then codes "</tr>\n"
+    then spark_cell c (Arrival source) then codes "</tr>\n"
 
 -- the row of an outlet at which something left, or didn't
 unfoldable pub left_row : ReportCounts → ℕ → List ℕ

@@ -1,7 +1,7 @@
 -- Who sent in which segment, and from where. It states no standard.
 use Rattle.std.specs.Prelude.{ℕ, ◌+◌, ◌*◌, ◌%◌, ◌&&◌, not, Bool, true, false, List, [], ◌∷◌}
 use Rattle.std.specs.List.{list_any}
-use Rattle.header_octets.specs.Octets.{is_same}
+use Rattle.wire.specs.Octets.{is_same}
 use Rattle.report_page.specs.Told.{is_talk, word_at}
 use Rattle.report_page.specs.declared.senders.Sender.{Sender}
 

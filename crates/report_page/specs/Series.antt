@@ -49,7 +49,7 @@ parts_of parted.Segments = 4095
 
 -- what is counted in a span
 abbrev pub number_at : ReportCounts → Kind → ℕ → ℕ
-number_at c (kinds.Came source) span = count_in source span c.sources.spans
+number_at c (kinds.Arrival source) span = count_in source span c.sources.spans
 number_at c (kinds.Left outlet) span = count_in outlet span c.outlets.spans
 number_at c (kinds.Events vid) span = count_in vid span c.segments.spans
 number_at c (kinds.Reason reason) span = count_in reason span c.reasons.spans

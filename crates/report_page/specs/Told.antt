@@ -3,7 +3,7 @@
 --     told_text      all of it
 use Rattle.std.specs.Prelude.{ℕ, zero, suc, ◌==◌, ◌&&◌, not, if◌then◌else◌, Bool, List, [], ◌∷◌, codes, decimal, length, take}
 use Rattle.std.specs.List.{flat_map, list_any}
-use Rattle.header_octets.specs.Octets.{is_same}
+use Rattle.wire.specs.Octets.{is_same}
 use Rattle.line_words.specs.Words.{word, behind}
 use Rattle.report_page.specs.declared.told.TheConstants.{STATIONS_HEAD, TALKS_TITLE, TALKS_HEAD, MOVES_TITLE, MOVES_HEAD, TALK_HEADS}
 use Rattle.report_page.specs.declared.told.TheConstants.{ENTRIES_TITLE, ENTRIES_HEAD, TABLE_END, STATIONS_END}

@@ -10,10 +10,10 @@ use crate::picture::SmallBarsCell;
 use crate::reasons::SENTENCES;
 use crate::segments::{SegmentWord, segment_at};
 use crate::series::{Kind, SPANS, Series, sum_of, together};
-use endpoint_state::{CHANGE_FAULTS, ChangeFault};
-use frame_view::{REASONS, Reason};
+use endpoint_core::state::{CHANGE_FAULTS, ChangeFault};
 use report_counts::ReportCounts;
 use std::fmt;
+use wire::ether::{REASONS, Reason};
 
 const DROPS_HEAD: &str = "<section aria-labelledby=\"drops\">\n<h2 id=\"drops\">Drops</h2>\n\
     <p>Why frames and packets were dropped, or weren't sent at an outlet (39 and 40), and what to look at.</p>\n\

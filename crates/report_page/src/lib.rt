@@ -10,6 +10,14 @@
 //!
 //! Proved: the whole page, octet for octet, so each number on it is the one that was counted, at its place; and that no text of
 //! others is markup ([`escaped_has_no_markup`], [`escaped_has_no_loose_ampersand`]).
+//!
+//! Proved besides:
+//! - The page that is written is exactly the stated one, octet for octet: so each number on it is the one that was
+//!   counted, at its place, each bar and each point stands as high as its number is of the greatest, and each square is
+//!   so dark: `write_page`. A fault comes with a part of it.
+//! - Nothing of the texts of others, names of places, the folder and what `tep run` printed, is markup: an escaped text
+//!   has no `<`, no `>` and no quotes, and no `&` but those of entities: `escaped_has_no_markup`,
+//!   `escaped_has_no_loose_ampersand`.
 #![tactic(auto)]
 
 mod chosen;

@@ -74,7 +74,7 @@ impl<'a> Parts<u16> for SpanRows<'a> {
         let counts = self.0;
         let begin = NumberCell(begin_of(counts, span));
         let ports = NumberCell(Series(counts, Kind::All(Parted::Ports)).number(span));
-        let underlay = NumberCell(Series(counts, Kind::Came(256)).number(span));
+        let underlay = NumberCell(Series(counts, Kind::Arrival(256)).number(span));
         let local = NumberCell(Series(counts, Kind::All(Parted::LocalOutlets)).number(span));
         let remote = NumberCell(Series(counts, Kind::All(Parted::RemoteOutlets)).number(span));
         let dropped = NumberCell(Series(counts, Kind::All(Parted::Segments)).number(span));
@@ -101,7 +101,7 @@ impl<'a> fmt::Display for OverTime<'a> {
             both: Both {
                 counts,
                 lower: Kind::All(Parted::Ports),
-                upper: Kind::Came(256),
+                upper: Kind::Arrival(256),
             },
         };
         let left = StackedPicture {

@@ -14,7 +14,7 @@ use crate::places::Places;
 use crate::segments::Segments;
 use crate::style::STYLE;
 use crate::told::Told;
-use pcap_stream::{Output, WriteFault};
+use pcap::stream::{Output, WriteFault};
 use report_counts::ReportCounts;
 use std::fmt;
 

@@ -3,7 +3,7 @@ ghost use Rattle.std.specs.Prelude.{◌≡◌, OnOk, IfSome};
 ghost use Rattle.std.specs.Io.KnownBytes.{Appends};
 ghost use Rattle.report_page.specs.Written.{AppendsThere};
 
-use pcap_stream::{Output, WriteFault};
+use pcap::stream::{Output, WriteFault};
 use std::fmt::{self, Display, Write};
 
 /// An output, as what texts are printed to.

@@ -13,7 +13,7 @@ use std::fmt;
 const CAME_HEAD: &str =
     "<section aria-labelledby=\"places\">\n<h2 id=\"places\">Places</h2>\n<h3>What came</h3>\n\
     <div class=\"wide\" role=\"region\" aria-label=\"What came from each place\" tabindex=\"0\"><table>\n\
-    <thead><tr><th scope=\"col\">Place</th><th scope=\"col\" class=\"n\">Came</th><th scope=\"col\">Over time</th></tr></thead>\n\
+    <thead><tr><th scope=\"col\">Place</th><th scope=\"col\" class=\"n\">Arrival</th><th scope=\"col\">Over time</th></tr></thead>\n\
     <tbody>\n";
 
 const LEFT_HEAD: &str = "</tbody>\n</table></div>\n<h3>What left</h3>\n\
@@ -58,7 +58,7 @@ impl<'a> Parts<u16> for CameRows<'a> {
         }
         let word = SourceWord(source);
         let came = NumberCell(came);
-        let spark = SparkCell(Series(self.0, Kind::Came(source)));
+        let spark = SparkCell(Series(self.0, Kind::Arrival(source)));
         write!(f, "<tr><th scope=\"row\">{word}</th>{came}{spark}</tr>\n")
     }
 }

@@ -65,7 +65,7 @@ pub(crate) enum Parted {
 #[derive(Clone, Copy)]
 pub(crate) enum Kind {
     /// What came from a source.
-    Came(u16),
+    Arrival(u16),
     /// What left at an outlet.
     Left(u16),
     /// The events of a segment.
@@ -142,7 +142,7 @@ impl<'a> Numbers for Series<'a> {
         let counts = self.0;
         let at = usize::from(span);
         match self.1 {
-            Kind::Came(source) => counts.came_at(usize::from(source), at),
+            Kind::Arrival(source) => counts.came_at(usize::from(source), at),
             Kind::Left(outlet) => counts.left_at(usize::from(outlet), at),
             Kind::Events(vid) => counts.segment_at(usize::from(vid), at),
             Kind::Reason(reason) => counts.reason_at(reason, at),

@@ -1,6 +1,6 @@
 //! The largest talks of each segment.
 ghost use Rattle.std.specs.Prelude.{◌≡◌, Some, cond};
-ghost use Rattle.header_octets.specs.Octets.{is_same};
+ghost use Rattle.wire.specs.Octets.{is_same};
 ghost use Rattle.report_page.specs.Told.{is_talk, largest_of, row_where, rows_of, talk_row, talks_of};
 
 use crate::chosen::{Choice, next_chosen};

@@ -1,10 +1,10 @@
 -- The counters over a whole run.
 use Rattle.std.proofs.Common.{◌≡◌, ◌∙◌, ap, sym, refl, ℕ, ◌+◌, List, [], ◌∷◌, ◌++◌, append-nil, append_assoc, length, map, inl, inr, ◌⊎◌, true}
 use Rattle.std.specs.List.{FoldsTo}
-use Rattle.overlay_settings.specs.declared.change.Change.{Change}
+use Rattle.overlay.specs.declared.settings.change.Change.{Change}
 use Rattle.timeline.specs.declared.event.Event.{Event}
 use Rattle.timeline.specs.declared.source.Tap.{Tap}
-use Rattle.endpoint_state.specs.Settings.{Settings}
+use Rattle.endpoint_core.specs.Settings.{Settings}
 use Rattle.endpoint_core.specs.Counts.{Counts}
 use Rattle.endpoint_core.specs.Event.{Event as Taken, IsRising}
 use Rattle.endpoint_core.specs.Step.{Answer, State, after, answer, answers, opened, state_after}

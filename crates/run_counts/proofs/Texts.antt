@@ -5,11 +5,11 @@ use Rattle.std.proofs.lemmas.Bool.{cond-false}
 use Rattle.std.proofs.lemmas.List.{map-id}
 use Rattle.std.proofs.lemmas.List.FromFn.{map-range_with_len_more}
 use Rattle.std.proofs.lemmas.Grind.{flat_map-append}
-use Rattle.frame_view.specs.Reason.{name_of, number_of}
-use Rattle.frame_view.specs.declared.reason.Reason.{Reason}
+use Rattle.wire.specs.Reason.{name_of, number_of}
+use Rattle.wire.specs.declared.ether.reason.Reason.{Reason}
 use Rattle.timeline.specs.declared.source.Tap.{Tap}
-use Rattle.endpoint_state.specs.Fault.{name_of as fault_name, number_of as fault_number}
-use Rattle.endpoint_state.specs.declared.fault.ChangeFault.{ChangeFault}
+use Rattle.endpoint_core.specs.Fault.{name_of as fault_name, number_of as fault_number}
+use Rattle.endpoint_core.specs.declared.state.fault.ChangeFault.{ChangeFault}
 use Rattle.endpoint_core.specs.Counts.{Counts}
 use Rattle.run_counts.specs.Summary.{count_line, dropped_line, flow_line, place_lines, refused_line, segment_lines, segment_word, segments_text, vids}
 use Rattle.run_counts.specs.Totals.{Totals}

@@ -1,4 +1,10 @@
-pub mod Totals
-pub mod Summary
 pub mod Keeping
+pub mod Kept
+pub mod PartsRun
+pub mod Rows
 pub mod Run
+pub mod Summary
+pub mod Tables
+pub mod Told
+pub mod Totals
+pub mod Whole

@@ -3,10 +3,10 @@
 --     run_summary      what is told then
 use Rattle.std.specs.Prelude.{◌≡◌, ℕ, List, [], length, map}
 use Rattle.std.specs.List.{FoldsTo}
-use Rattle.overlay_settings.specs.declared.change.Change.{Change}
+use Rattle.overlay.specs.declared.settings.change.Change.{Change}
 use Rattle.timeline.specs.declared.event.Event.{Event}
 use Rattle.timeline.specs.declared.source.Tap.{Tap}
-use Rattle.endpoint_state.specs.Settings.{Settings}
+use Rattle.endpoint_core.specs.Settings.{Settings}
 use Rattle.endpoint_core.specs.Counts.{Counts, tally}
 use Rattle.endpoint_core.specs.Run.{decided_of_all, decisions}
 use Rattle.endpoint_core.specs.Step.{Answer, opened, state_after}

@@ -3,22 +3,22 @@
 -- `cut p2 7`. It states no standard.
 use Rattle.std.specs.Prelude.{ℕ, ◌==◌, if◌then◌else◌, List, [], ◌∷◌, ◌++◌, codes, decimal, Option, Some, None}
 use Rattle.std.specs.List.{flat_map, range_with_len}
-use Rattle.frame_view.specs.Reason.{name_of, number_of}
-use Rattle.frame_view.specs.declared.reason.Reason.{Reason}
-use Rattle.frame_view.specs.declared.reason.Reason.TheVariants.{TooLong, Sliced, Runt, PortDown, BadSource, Reserved, CutTag}
-use Rattle.frame_view.specs.declared.reason.Reason.TheVariants.{BadVid, FrameType, NoSegment, NotMember, NotIp, BadIp}
-use Rattle.frame_view.specs.declared.reason.Reason.TheVariants.{BadIpSum, BadOuterSource, NotForUs, Fragment, NotUdp, BadUdp}
-use Rattle.frame_view.specs.declared.reason.Reason.TheVariants.{NotTunnel, ZeroSum, BadUdpSum, ShortTunnel, NoVniFlag}
-use Rattle.frame_view.specs.declared.reason.Reason.TheVariants.{BadVersion, Control, NotEthernet, BadOptions, CriticalOption}
-use Rattle.frame_view.specs.declared.reason.Reason.TheVariants.{UnknownVni, WrongGroup, UnknownPeer, InnerRunt, InnerTag}
-use Rattle.frame_view.specs.declared.reason.Reason.TheVariants.{SamePlace, Horizon, Unreachable, NoOutlet, TooBig, InnerTagOut}
+use Rattle.wire.specs.Reason.{name_of, number_of}
+use Rattle.wire.specs.declared.ether.reason.Reason.{Reason}
+use Rattle.wire.specs.declared.ether.reason.Reason.TheVariants.{TooLong, Sliced, Runt, PortDown, BadSource, Reserved, CutTag}
+use Rattle.wire.specs.declared.ether.reason.Reason.TheVariants.{BadVid, FrameType, NoSegment, NotMember, NotIp, BadIp}
+use Rattle.wire.specs.declared.ether.reason.Reason.TheVariants.{BadIpSum, BadOuterSource, NotForUs, Fragment, NotUdp, BadUdp}
+use Rattle.wire.specs.declared.ether.reason.Reason.TheVariants.{NotTunnel, ZeroSum, BadUdpSum, ShortTunnel, NoVniFlag}
+use Rattle.wire.specs.declared.ether.reason.Reason.TheVariants.{BadVersion, Control, NotEthernet, BadOptions, CriticalOption}
+use Rattle.wire.specs.declared.ether.reason.Reason.TheVariants.{UnknownVni, WrongGroup, UnknownPeer, InnerRunt, InnerTag}
+use Rattle.wire.specs.declared.ether.reason.Reason.TheVariants.{SamePlace, Horizon, Unreachable, NoOutlet, TooBig, InnerTagOut}
 use Rattle.timeline.specs.Words.{tap_word}
 use Rattle.timeline.specs.declared.source.Tap.{Tap}
 use Rattle.timeline.specs.declared.source.Tap.TheVariants.{Port, Underlay}
 use Rattle.timeline.specs.declared.timeline.Cut.{Cut}
-use Rattle.endpoint_state.specs.Fault.{name_of as fault_name, number_of as fault_number}
-use Rattle.endpoint_state.specs.declared.fault.ChangeFault.{ChangeFault}
-use Rattle.endpoint_state.specs.declared.fault.ChangeFault.TheVariants as faults
+use Rattle.endpoint_core.specs.Fault.{name_of as fault_name, number_of as fault_number}
+use Rattle.endpoint_core.specs.declared.state.fault.ChangeFault.{ChangeFault}
+use Rattle.endpoint_core.specs.declared.state.fault.ChangeFault.TheVariants as faults
 use Rattle.endpoint_core.specs.Counts.{Counts}
 use Rattle.decision_lines.specs.Lines.{cut_line}
 use Rattle.run_counts.specs.Totals.{Totals}

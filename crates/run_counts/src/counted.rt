@@ -4,7 +4,7 @@ ghost use Rattle.endpoint_core.specs.Counts.{Counts};
 ghost use Rattle.endpoint_core.specs.Kept.{state_of};
 
 use endpoint_core::Endpoint;
-use frame_view::Vid;
+use wire::ether::Vid;
 
 /// Whoever knows how often each thing was decided, by segments.
 pub trait Counted {

@@ -1,9 +1,9 @@
 //! Laws over the definitions.
 ghost use Rattle.std.specs.Prelude.{◌≡◌, ◌⊎◌, ◌++◌, ℕ, List, [], map, true};
-ghost use Rattle.overlay_settings.specs.declared.change.Change.{Change};
+ghost use Rattle.overlay.specs.declared.settings.change.Change.{Change};
 ghost use Rattle.timeline.specs.declared.event.Event.{Event};
 ghost use Rattle.timeline.specs.declared.source.Tap.{Tap};
-ghost use Rattle.endpoint_state.specs.Settings.{Settings};
+ghost use Rattle.endpoint_core.specs.Settings.{Settings};
 ghost use Rattle.endpoint_core.specs.Event.{IsRising};
 ghost use Rattle.capture_run.specs.Outputs.{event_of};
 ghost use Rattle.run_counts.specs.Keeping.{Keeping, totals_in};

@@ -12,6 +12,11 @@
 //! card. The text is exactly the summary of these and of the tally of all decisions by segment and reason, unless memory was
 //! refused at the end ([`laws::runs`]). Each count ends at the greatest of 64 bits.
 //!
+//! Proved besides:
+//! - The lines of counts are exactly the stated ones of whoever knows them: `put_segments`, `put_changes`,
+//!   `put_places`, `put_partial`, `put_cuts`, over the trait `Counted`.
+//! - What passed here and there adds up place by place: `Flows::add_all`.
+//!
 //! Why it is so: counts by segments are the endpoint's own, read at the end; what passed at places is counted as the run goes,
 //! and what leaves is measured here once more, so that who asks for no summary pays nothing. What passed at a place is said as
 //! a sum over the whole list of events or answers, and each step by this: where the counters were the sums before, they are
@@ -22,6 +27,7 @@ mod counted;
 mod flow;
 pub mod laws;
 mod lines;
+pub mod parts;
 mod refusals;
 mod run_counts;
 

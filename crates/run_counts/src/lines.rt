@@ -9,11 +9,11 @@ ghost use Rattle.run_counts.specs.Summary.{places_text, refused_line, segment_li
 use crate::counted::Counted;
 use crate::flow::{Flow, Flows};
 use crate::refusals::{Refusals, refused_for};
-use endpoint_state::{CHANGE_FAULTS, ChangeFault};
-use frame_view::{REASONS, Reason, Vid};
+use endpoint_core::state::{CHANGE_FAULTS, ChangeFault};
 use std::alloc::AllocError;
 use std::fmt::Write;
 use timeline::Tap;
+use wire::ether::{REASONS, Reason, Vid};
 
 /// Puts the lines of all segments, their VIDs rising, and then those of none.
 pub fn put_segments<C: Counted>(text: &mut String, counts: &C) -> Result<(), AllocError>

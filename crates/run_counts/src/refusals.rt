@@ -1,7 +1,7 @@
 //! How often changes were refused.
 ghost use Rattle.std.specs.Prelude.{◌≡◌, ◌∷◌, ◌++◌, [], List, count_by, min};
 ghost use Rattle.endpoint_core.specs.Counts.{most};
-ghost use Rattle.endpoint_state.specs.declared.fault.ChangeFault.{ChangeFault as AFault};
+ghost use Rattle.endpoint_core.specs.declared.state.fault.ChangeFault.{ChangeFault as AFault};
 ghost use Rattle.run_counts.specs.Keeping.{refusals_in};
 ghost use Rattle.run_counts.specs.Totals.{same_fault};
 

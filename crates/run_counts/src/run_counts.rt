@@ -3,13 +3,13 @@ ghost use Rattle.std.specs.Prelude.{◌≡◌, ◌+◌, ◌++◌, [], if◌then�
 ghost use Rattle.std.specs.Prelude.{List, ℕ, OnOk, false, length, map, min, string_bytes};
 ghost use Rattle.std.specs.List.{filter_map, list_all};
 ghost use Rattle.timeline.specs.declared.source.Tap.{Tap as ATap};
-ghost use Rattle.frame_view.specs.First.{fault_of};
-ghost use Rattle.endpoint_core.specs.Course.{CanLeave, IsThere, decision_of};
+ghost use Rattle.wire.specs.First.{fault_of};
+ghost use Rattle.endpoint_core.specs.Forwarding.{CanLeave, IsThere, decision_of};
 ghost use Rattle.endpoint_core.specs.Counts.{most};
 ghost use Rattle.endpoint_core.specs.Kept.{state_of};
 ghost use Rattle.endpoint_core.specs.Step.{Decided, Replied, sent_at};
-ghost use Rattle.endpoint_state.specs.Settings.{segment_at};
-ghost use Rattle.endpoint_state.specs.Step.{can_leave};
+ghost use Rattle.endpoint_core.specs.Settings.{segment_at};
+ghost use Rattle.endpoint_core.specs.StateStep.{can_leave};
 ghost use Rattle.run_counts.specs.Keeping.{Hears, flow_in, totals_in};
 ghost use Rattle.run_counts.specs.Summary.{counts_text, cuts_text};
 ghost use Rattle.run_counts.specs.Totals.{flow_of, is_partial_at, size_to, tap_of, totals_of};
@@ -18,7 +18,7 @@ use crate::flow::{Flow, Flows};
 use crate::lines::{put_changes, put_cuts, put_partial, put_places, put_segments};
 use crate::refusals::{Refusals, add_refusal, none_refused};
 use decapsulate::is_left_to_card;
-use endpoint_core::{Came, ChangeFault, Course, Endpoint};
+use endpoint_core::{Arrival, ChangeFault, Endpoint, Forwarding};
 use filter_db::Place;
 use std::alloc::{AllocError, Global};
 use std::marker::Model;
@@ -105,15 +105,15 @@ impl Watch for RunCounts {
 
     ghost ends = { Ends };
 
-    fn see(&mut self, _endpoint: &Endpoint, _number: u64, event: &Event, _came: &Course) {
+    fn see(&mut self, _endpoint: &Endpoint, _number: u64, event: &Event, _came: &Forwarding) {
         if let Happening::Record(tap, captured) = &event.happening {
             self.came.add(*tap, captured.octets.len());
             self.partial = partial_with(self.partial, *tap, captured.octets);
         }
     }
 
-    fn hear_decision(&mut self, endpoint: &Endpoint, course: &Course, places: &[Place]) {
-        self.count_decision(endpoint, course, places);
+    fn hear_decision(&mut self, endpoint: &Endpoint, forwarding: &Forwarding, places: &[Place]) {
+        self.count_decision(endpoint, forwarding, places);
     }
 
     fn hear_reply(&mut self, reply: Result<(), ChangeFault>) {
@@ -132,12 +132,12 @@ impl Watch for RunCounts {
 
 impl RunCounts {
     /// Counts what leaves of a frame or a packet.
-    fn count_decision(&mut self, endpoint: &Endpoint, course: &Course, places: &[Place])
-        requires there { IsThere (state_of endpoint.now).bridges.settings course.now }
-        requires leave { CanLeave (state_of endpoint.now).bridges.settings course.now places.now }
-        ensures { Hears self.old (Decided (decision_of (state_of endpoint.now).bridges.settings course.now places.now)) self.new }
+    fn count_decision(&mut self, endpoint: &Endpoint, forwarding: &Forwarding, places: &[Place])
+        requires there { IsThere (state_of endpoint.now).bridges.settings forwarding.now }
+        requires leave { CanLeave (state_of endpoint.now).bridges.settings forwarding.now places.now }
+        ensures { Hears self.old (Decided (decision_of (state_of endpoint.now).bridges.settings forwarding.now places.now)) self.new }
     {
-        if let Ok(came) = course {
+        if let Ok(came) = forwarding {
             add_leaving(&mut self.left, endpoint, came, places);
         }
     }
@@ -166,7 +166,7 @@ impl RunCounts {
 }
 
 /// Counts what leaves of a frame at each of these places.
-fn add_leaving(flows: &mut Flows, endpoint: &Endpoint, came: &Came, places: &[Place])
+fn add_leaving(flows: &mut Flows, endpoint: &Endpoint, came: &Arrival, places: &[Place])
     requires there { IsSome (segment_at (state_of endpoint.now).bridges.settings came.now.vid) }
     requires leave { IsTrue (list_all (can_leave (state_of endpoint.now).bridges.settings came.now.vid) places.now) }
     ensures { let S = (state_of endpoint.now).bridges.settings in

@@ -2,7 +2,7 @@
 ghost use Rattle.std.specs.Prelude.{◌≡◌};
 
 use crate::progress::Progress;
-use endpoint_core::{ChangeFault, Course, Endpoint};
+use endpoint_core::{ChangeFault, Endpoint, Forwarding};
 use filter_db::Place;
 use std::time::Clock;
 use stream_run::Watch;
@@ -35,7 +35,7 @@ impl<'r, T: Watch, R: Clock + Eprint> Watch for Beside<'r, T, R> {
     ghost ends = { λ old state new. T.ends old.watch state new.watch };
 
     #[inline]
-    fn see(&mut self, endpoint: &Endpoint, number: u64, event: &Event, came: &Course) {
+    fn see(&mut self, endpoint: &Endpoint, number: u64, event: &Event, came: &Forwarding) {
         self.watch.see(endpoint, number, event, came);
         if let Some(progress) = &mut self.progress {
             progress.count(event);
@@ -43,8 +43,8 @@ impl<'r, T: Watch, R: Clock + Eprint> Watch for Beside<'r, T, R> {
     }
 
     #[inline]
-    fn hear_decision(&mut self, endpoint: &Endpoint, course: &Course, places: &[Place]) {
-        self.watch.hear_decision(endpoint, course, places);
+    fn hear_decision(&mut self, endpoint: &Endpoint, forwarding: &Forwarding, places: &[Place]) {
+        self.watch.hear_decision(endpoint, forwarding, places);
     }
 
     #[inline]

@@ -11,6 +11,14 @@
 //! rate is that since the start, and the text of a line is exactly the stated one. What reaches a terminal, and when a clock
 //! says what, isn't.
 //!
+//! Proved besides:
+//! - Of each event that comes, taken or passed over, one more is counted, and the octets that its record takes in a
+//!   capture, up to the greatest number of 64 bits: `Counted::add`, `Progress::count`.
+//! - A line is due after the first second, and then 200 ms behind the last one or later: `Pace::is_due`.
+//! - The rate is that of all events since the start, rounded down, without overflow; the share is rounded down and at
+//!   most 99 in a hundred: `rate_of`, `share_of`. A line has these of what was counted: `Counted::line`.
+//! - Whoever else looks on sees what it would alone, and a run's contract for it is that without progress: `Beside`.
+//!
 //! Why it is so: the clock is looked at once in 4,096 events, so that an event costs a few instructions more. A clock or a write
 //! that fails is passed over: a run doesn't end for its progress.
 #![tactic(auto)]

@@ -6,7 +6,7 @@ use Rattle.std.specs.Prelude.{Result, Ok, Err, not, option_map, ◌&&◌}
 use Rattle.std.specs.Str.Pattern.{FindsTextPrefix, StripsPrefix}
 use Rattle.std.proofs.Math.Bool.{and-false, or-false}
 use Rattle.std.specs.List.{list_any}
-use Rattle.frame_view.specs.declared.reason.Reason.{Reason}
+use Rattle.wire.specs.declared.ether.reason.Reason.{Reason}
 use Rattle.encapsulate.specs.Remote.{sizes}
 use Rattle.endpoint_core.specs.Decision.{Decision}
 use Rattle.timeline.specs.declared.source.Tap.TheVariants.{Port, Underlay}

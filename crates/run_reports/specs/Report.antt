@@ -7,7 +7,7 @@ use Rattle.endpoint_core.specs.Step.{Answer, State}
 use Rattle.timeline.specs.declared.event.Event.{Event}
 use Rattle.stream_run.specs.Sights.{Due, Sight, due}
 use Rattle.table_lines.specs.Lines.{shown_at, tables_text}
-use Rattle.overlay_settings.specs.declared.change.TimedChange.{TimedChange}
+use Rattle.overlay.specs.declared.settings.change.TimedChange.{TimedChange}
 use Rattle.event_story.specs.Story.{run_story}
 use Rattle.run_reports.specs.Name.{is_named}
 use Rattle.run_reports.specs.Sought.{address_met, addresses_sought, foreseen, is_first, passing_of, reason_met, reasons_sought}

@@ -11,10 +11,10 @@ use Rattle.std.specs.Ordering.{eq_by_cmp}
 use Rattle.std.specs.Str.{bytes_eq}
 use Rattle.line_words.specs.Numbers.{number_of}
 use Rattle.config_text.specs.Address.{mac_of}
-use Rattle.header_octets.specs.Octets.{part}
-use Rattle.frame_view.specs.Reason.{number_of as reason_number}
-use Rattle.frame_view.specs.declared.reason.Reason.{Reason}
-use Rattle.frame_view.specs.declared.reason.Refused.{Refused}
+use Rattle.wire.specs.Octets.{part}
+use Rattle.wire.specs.Reason.{number_of as reason_number}
+use Rattle.wire.specs.declared.ether.reason.Reason.{Reason}
+use Rattle.wire.specs.declared.ether.reason.Refused.{Refused}
 use Rattle.filter_db.specs.Table.{mac_cmp}
 use Rattle.timeline.specs.declared.event.Event.{Event}
 use Rattle.timeline.specs.declared.event.Happening.{Happening}
@@ -22,7 +22,7 @@ use Rattle.timeline.specs.declared.event.Happening.TheVariants.{Change, Record}
 use Rattle.timeline.specs.declared.source.Tap.{Tap}
 use Rattle.timeline.specs.declared.source.Tap.TheVariants.{Port, Underlay}
 use Rattle.endpoint_core.specs.Arrival.{came_by}
-use Rattle.endpoint_core.specs.Came.{Came}
+use Rattle.endpoint_core.specs.Arrival.{Arrival}
 use Rattle.endpoint_core.specs.Decision.{Decision}
 use Rattle.endpoint_core.specs.Event.{frame_at, packet_at}
 use Rattle.endpoint_core.specs.Step.{Answer, Decided, Replied, State, answer}
@@ -142,7 +142,7 @@ abbrev pub passing_at : Tap → List ℕ → Option Passing
 passing_at tap b = if nat_lt (length b) 14 then None else Some (record { tap = tap; destination = take 6 b; source = part 6 6 b })
 
 -- those of the frame that a packet brings
-abbrev pub passing_by : Result Came Refused → Option Passing
+abbrev pub passing_by : Result Arrival Refused → Option Passing
 passing_by (Ok x) = Some (record { tap = Underlay; destination = x.frame.dst; source = x.frame.src })
 passing_by (Err refused) = None
 

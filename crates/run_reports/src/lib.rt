@@ -13,6 +13,9 @@
 //! first event of the run behind a moment and at the end, unless memory was refused; and which of the names an event had, or
 //! was the first of.
 //!
+//! Proved besides:
+//! - Which texts can be names: `is_event_name`.
+//!
 //! Why it is so: an event is named by what its decision line has in front, its number, or its source and the number there. A
 //! name that no event has is no fault of the words, since only the run knows how many events come.
 #![tactic(auto)]

@@ -1,6 +1,6 @@
 //! Who looks on at a run for whom asks.
 use crate::reports::Reports;
-use endpoint_core::{ChangeFault, Course, Endpoint};
+use endpoint_core::{ChangeFault, Endpoint, Forwarding};
 use filter_db::Place;
 use run_counts::RunCounts;
 use stream_run::Watch;
@@ -22,16 +22,16 @@ impl<'n, 'a> Watch for Onlooker<'n, 'a> {
 
     ghost ends = { Ended };
 
-    fn see(&mut self, endpoint: &Endpoint, number: u64, event: &Event, came: &Course) {
+    fn see(&mut self, endpoint: &Endpoint, number: u64, event: &Event, came: &Forwarding) {
         self.reports.see(endpoint, number, event, came);
         if let Some(counts) = &mut self.counts {
             counts.see(endpoint, number, event, came);
         }
     }
 
-    fn hear_decision(&mut self, endpoint: &Endpoint, course: &Course, places: &[Place]) {
+    fn hear_decision(&mut self, endpoint: &Endpoint, forwarding: &Forwarding, places: &[Place]) {
         if let Some(counts) = &mut self.counts {
-            counts.hear_decision(endpoint, course, places);
+            counts.hear_decision(endpoint, forwarding, places);
         }
     }
 

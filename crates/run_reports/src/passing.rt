@@ -2,14 +2,14 @@
 ghost use Rattle.std.specs.Prelude.{◌≡◌, IfSome, option_map};
 ghost use Rattle.std.specs.Ordering.{eq_by_cmp};
 ghost use Rattle.filter_db.specs.Table.{mac_cmp};
-ghost use Rattle.endpoint_core.specs.Course.{CanLeave, decision_of};
+ghost use Rattle.endpoint_core.specs.Forwarding.{CanLeave, decision_of};
 ghost use Rattle.endpoint_core.specs.Kept.{state_of};
 ghost use Rattle.run_reports.specs.Sought.{foreseen, passing_at, passing_by, passing_of, same_tap};
 
-use endpoint_core::{Course, Endpoint, Outlets};
+use endpoint_core::{Endpoint, Forwarding, Outlets};
 use event_story::can_come;
-use frame_view::{EtherView, Mac};
 use timeline::{Event, Happening, Tap};
+use wire::ether::{EtherView, Mac};
 
 /// Where a frame came, and its addresses.
 #[derive(Clone, Copy)]
@@ -50,10 +50,10 @@ fn passing_at(tap: Tap, octets: &[u8]) -> Option<Passing>
 }
 
 /// The addresses of the frame that a packet brings.
-fn passing_by(course: &Course) -> Option<Passing>
-    ensures { result ≡ passing_by course.now }
+fn passing_by(forwarding: &Forwarding) -> Option<Passing>
+    ensures { result ≡ passing_by forwarding.now }
 {
-    match course {
+    match forwarding {
         Ok(came) => Some(Passing {
             tap: Tap::Underlay,
             destination: came.frame().dst(),
@@ -87,10 +87,10 @@ pub fn foreseen<'a>(
     endpoint: &Endpoint,
     event: &Event<'a>,
     places: &mut Outlets,
-) -> Option<Course<'a>>
+) -> Option<Forwarding<'a>>
     ensures decision { let S = (state_of endpoint.now).bridges.settings in
-        option_map (λ course. decision_of S course places.new.items) result ≡ foreseen (state_of endpoint.now) event.now }
-    ensures leave { IfSome result (λ course. CanLeave (state_of endpoint.now).bridges.settings course places.new.items) }
+        option_map (λ forwarding. decision_of S forwarding places.new.items) result ≡ foreseen (state_of endpoint.now) event.now }
+    ensures leave { IfSome result (λ forwarding. CanLeave (state_of endpoint.now).bridges.settings forwarding places.new.items) }
 {
     if !can_come(endpoint, event) {
         return None;
@@ -99,11 +99,11 @@ pub fn foreseen<'a>(
         Happening::Change(_) => None,
         Happening::Record(Tap::Port(port), captured) => {
             let (original, octets) = (captured.original, captured.octets);
-            Some(endpoint.course_of_frame(event.moment, *port, original, octets, places))
+            Some(endpoint.forwarding_of_frame(event.moment, *port, original, octets, places))
         }
         Happening::Record(Tap::Underlay, captured) => {
             let (original, octets) = (captured.original, captured.octets);
-            Some(endpoint.course_of_packet(event.moment, original, octets, places))
+            Some(endpoint.forwarding_of_packet(event.moment, original, octets, places))
         }
     }
 }

@@ -8,10 +8,10 @@ ghost use Rattle.run_reports.specs.Report.{asked, due_told, ended_by, is_before,
 
 use crate::asked::AskedNames;
 use crate::sought::Sought;
-use endpoint_core::{ChangeFault, Course, Endpoint};
+use endpoint_core::{ChangeFault, Endpoint, Forwarding};
 use event_story::story_in_run;
 use filter_db::Place;
-use overlay_settings::TimedChange;
+use overlay::settings::TimedChange;
 use segment_set::SegmentSet;
 use std::alloc::{AllocError, Global};
 use std::marker::Model;
@@ -134,13 +134,18 @@ impl<'n, 'a> Watch for Reports<'n, 'a> {
 
     ghost ends = { λ old state new. TellsOrLoses (ended_by old state) new };
 
-    fn see(&mut self, endpoint: &Endpoint, number: u64, event: &Event, _came: &Course) {
+    fn see(&mut self, endpoint: &Endpoint, number: u64, event: &Event, _came: &Forwarding) {
         if !self.is_lost && self.tell(endpoint, number, event).is_err() {
             self.is_lost = true;
         }
     }
 
-    fn hear_decision(&mut self, _endpoint: &Endpoint, _course: &Course, _places: &[Place]) {}
+    fn hear_decision(
+        &mut self,
+        _endpoint: &Endpoint,
+        _forwarding: &Forwarding,
+        _places: &[Place],
+    ) {}
 
     fn hear_reply(&mut self, _reply: Result<(), ChangeFault>) {}
 

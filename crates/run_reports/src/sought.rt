@@ -10,9 +10,9 @@ use crate::causes::{Causes, is_marked, mark_causes};
 use crate::passing::{Passing, foreseen, passing_of, same_address, same_tap};
 use crate::wanted::{Reasons, address_in, reasons_in};
 use endpoint_core::{Endpoint, Outlets};
-use frame_view::Mac;
 use std::alloc::{AllocError, Global};
 use timeline::{Event, Tap};
+use wire::ether::Mac;
 
 /// How many reasons there are.
 const REASONS: u8 = 40;
@@ -218,9 +218,9 @@ fn meet_reasons(
         return false;
     }
     match foreseen(endpoint, event, places) {
-        Some(course) => {
+        Some(forwarding) => {
             let mut causes = [false; 256];
-            mark_causes(&mut causes, endpoint, &course, places.as_slice());
+            mark_causes(&mut causes, endpoint, &forwarding, places.as_slice());
             mark_reasons(reasons, &causes)
         }
         None => false,

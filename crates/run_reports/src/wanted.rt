@@ -3,8 +3,8 @@ ghost use Rattle.std.specs.Prelude.{◌≡◌, option_map};
 ghost use Rattle.run_reports.specs.Sought.{address_in, behind, one_reason, reasons_in, reasons_of};
 
 use config_text::mac_of;
-use frame_view::Mac;
 use line_words::number_of;
+use wire::ether::Mac;
 
 /// The reasons that a name asks for.
 #[derive(Clone, Copy)]

@@ -1,3 +1,3 @@
-mod command_line_tests;
-mod decision_lines_tests;
-mod text_calls_tests;
+mod directions;
+mod progress;
+mod runs;

@@ -1,14 +1,14 @@
 -- A run over files that tell all their octets leaves what comes out of the run of these; and so of digests.
-use Rattle.std.proofs.Common.{◌≡◌, ℕ, List, [], ◌∷◌, map, Option, Some, Result, Ok, Err, Bor, refl, sym, ap, ◌∙◌, subst, All}
+use Rattle.std.proofs.Common.{◌≡◌, ℕ, List, [], ◌∷◌, map, Option, None, Some, Result, Ok, Err, Bor, refl, sym, ap, ◌∙◌, subst, All}
 use Rattle.std.proofs.lemmas.List.Elements.{All-head, All-tail}
 use Rattle.std.specs.List.{AllZip}
 use Rattle.std.specs.Prelude.{IfOk, IfSome}
 use Rattle.timeline.specs.declared.event.Event.{Event}
-use Rattle.overlay_settings.specs.declared.change.TimedChange.{TimedChange}
+use Rattle.overlay.specs.declared.settings.change.TimedChange.{TimedChange}
 use Rattle.overlay_config.specs.Fault.{Meaning}
 use Rattle.overlay_config.specs.Settings.{Settings}
 use Rattle.segment_set.specs.Segments.{Segments}
-use Rattle.pcap_stream.specs.Source.{Stream}
+use Rattle.pcap.specs.Source.{Stream}
 use Rattle.pcapng_input.specs.Adapted.{told_text}
 use Rattle.capture_run.specs.Outputs.{Outputs}
 use Rattle.part_record.specs.Digests.{digest_of}
@@ -22,7 +22,7 @@ use Rattle.runs_on_files.specs.Digests.{AreDigestsOf, IsDigestOf}
 use Rattle.runs_on_files.specs.Files.{IsRunOnFiles}
 use Rattle.runs_on_files.specs.Held.{HoldsRun}
 use Rattle.runs_in_memory.specs.Left.{AlwaysTells, AreDigested, IsDigested, IsTextOf, LeavesRun, known}
-use Rattle.memory_files.specs.Memory.{file_holds, file_left, input_left}
+use Rattle.runs_in_memory.specs.Memory.{file_holds, file_left, input_left}
 
 -- ---- what was read
 
@@ -144,3 +144,8 @@ memory_digests = digests_tell file_left input_left (λ file. (file.left.now, ref
 pub where_done : {T E : Type 0} (A B : T → Type 0) (result : Result T E) → ((x : T) → A x → B x) → IfOk result A → IfOk result B
 where_done A B (Ok x) f h = f x h
 where_done A B (Err e) f h = tt
+
+-- and where a folder is named
+pub where_named : {A B C : Type 0} (folder : Option A) → (B → C) → IfSome folder (λ _. B) → IfSome folder (λ _. C)
+where_named None f h = tt
+where_named (Some x) f h = f h

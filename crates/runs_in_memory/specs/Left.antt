@@ -12,9 +12,9 @@ use Rattle.std.specs.declared.alloc.Global.{Global}
 use Rattle.command_line.specs.Capture.{interface_of}
 use Rattle.pcapng_input.specs.Adapted.{told_text}
 use Rattle.pcapng_input.specs.declared.interface.Selection.{Selection}
-use Rattle.pcap_stream.specs.Source.{Stream}
+use Rattle.pcap.specs.Source.{Stream}
 use Rattle.timeline.specs.declared.event.Event.{Event}
-use Rattle.overlay_settings.specs.declared.change.TimedChange.{TimedChange}
+use Rattle.overlay.specs.declared.settings.change.TimedChange.{TimedChange}
 use Rattle.overlay_config.specs.Fault.{Meaning}
 use Rattle.overlay_config.specs.Settings.{Settings}
 use Rattle.segment_set.specs.Segments.{Segments}

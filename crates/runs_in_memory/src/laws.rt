@@ -4,12 +4,12 @@ ghost use Rattle.std.specs.Borrow.{Bor};
 ghost use Rattle.timeline.specs.declared.event.Event.{Event};
 ghost use Rattle.overlay_config.specs.Fault.{Meaning};
 ghost use Rattle.overlay_config.specs.Settings.{Settings};
-ghost use Rattle.overlay_settings.specs.declared.change.TimedChange.{TimedChange};
+ghost use Rattle.overlay.specs.declared.settings.change.TimedChange.{TimedChange};
 ghost use Rattle.segment_set.specs.Segments.{Segments};
 ghost use Rattle.part_record.specs.declared.digests.CaptureDigest.{CaptureDigest};
 ghost use Rattle.runs_on_files.specs.Digests.{AreDigestsOf};
 ghost use Rattle.runs_on_files.specs.Files.{IsRunOnFiles};
-ghost use Rattle.memory_files.specs.Memory.{file_holds, file_left, input_left};
+ghost use Rattle.runs_in_memory.specs.Memory.{file_holds, file_left, input_left};
 ghost use Rattle.runs_in_memory.specs.Left.{AlwaysTells, AreDigested, LeavesRun};
 
 use std::io::Input;

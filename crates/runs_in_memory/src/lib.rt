@@ -1,6 +1,6 @@
 //! What a run over files that tell all their octets leaves in them, as files in memory do.
 //!
-//! Use: [`laws`]; [`run_in_memory`] is a run over `memory_files`, and [`texts_in_memory`] reads its texts.
+//! Use: [`laws`]; [`run_in_memory`] is a run over [`files`], and [`texts_in_memory`] reads its texts.
 //!
 //! Read `specs/Left.antt`, and `memory_files/specs/Memory` for what files in memory tell.
 //!
@@ -11,11 +11,17 @@
 //! them both hold without a condition ([`laws::left_in_memory`], [`laws::digested_in_memory`]); and so ends a run over them
 //! ([`run_in_memory`]).
 //!
+//! Proved besides:
+//! - Files in memory are such files, so of them both hold without a condition: `laws::left_in_memory`,
+//!   `laws::digested_in_memory`. So ends a run over them, with the body of the program's (`run_in_memory`), and its
+//!   texts are what some of them had left (`texts_in_memory`).
+//!
 //! Why it is so: `runs_on_files::run_on_files` has one body for all files, and its contract speaks of what they tell, where
 //! they tell it. The system's own files tell nothing; these tell everything. Which file a name opens no contract says: `Files`
 //! of `std` tells a caller nothing of it.
 #![tactic(auto)]
 
+pub mod files;
 pub mod laws;
 mod runs;
 

@@ -7,10 +7,10 @@ use Rattle.std.specs.Prelude.{IfOk, IfSome, MatchBool}
 use Rattle.std.proofs.lemmas.Bool.{true≢false}
 use Rattle.capture_run.specs.declared.fault.RunFault.TheVariants as faults
 use Rattle.std.specs.declared.alloc.Global.{Global}
-use Rattle.pcap_stream.specs.Sink.{Drain}
-use Rattle.pcap_stream.specs.Source.{Stream}
+use Rattle.pcap.specs.Sink.{Drain}
+use Rattle.pcap.specs.Source.{Stream}
 use Rattle.timeline.specs.declared.event.Event.{Event}
-use Rattle.overlay_settings.specs.declared.change.TimedChange.{TimedChange}
+use Rattle.overlay.specs.declared.settings.change.TimedChange.{TimedChange}
 use Rattle.overlay_config.specs.Fault.{Meaning}
 use Rattle.overlay_config.specs.Settings.{Settings}
 use Rattle.segment_set.specs.Segments.{Segments}
@@ -131,8 +131,7 @@ pub where_done : {T E A B C : Type 0} (result : Result T E) (folder : Option A) 
 where_done (Ok x) folder f h = where_named folder f h
 where_done (Err e) folder f h = tt
 
--- what holds of a run in a folder holds where one is named
-pub if_named : {T E A : Type 0} (C : Type 0) (result : Result T E) (folder : Option A) → IfOk result (λ _. C) → IfOk result (λ _. IfSome folder (λ _. C))
-if_named C (Ok x) None h = tt
-if_named C (Ok x) (Some y) h = h
-if_named C (Err e) folder h = tt
+-- what holds anyhow holds where one is named
+pub if_some : {A B : Type 0} (folder : Option A) → B → IfSome folder (λ _. B)
+if_some None h = tt
+if_some (Some x) h = h

@@ -3,22 +3,22 @@
 --     IsRunOnFiles      of captures that were opened for it, by their names
 use Rattle.std.specs.Prelude.{ℕ, List, Option}
 use Rattle.std.specs.Borrow.{Bor}
-use Rattle.pcap_stream.specs.Source.{Stream}
+use Rattle.pcap.specs.Source.{Stream}
 use Rattle.timeline.specs.declared.event.Event.{Event}
-use Rattle.overlay_settings.specs.declared.change.TimedChange.{TimedChange}
+use Rattle.overlay.specs.declared.settings.change.TimedChange.{TimedChange}
 use Rattle.overlay_config.specs.Fault.{Meaning}
 use Rattle.overlay_config.specs.Settings.{Settings}
 use Rattle.segment_set.specs.Segments.{Segments, All}
 use Rattle.program_files.specs.Held.{AreHeld, Held}
 use Rattle.program_files.specs.Opened.{AreOpened, IsOpened}
 use Rattle.runs_on_files.specs.Held.{IsRunInto}
-use Rattle.runs_on_files.specs.declared.runs.Scope.{Scope}
-use Rattle.runs_on_files.specs.declared.runs.Scope.TheVariants.{Part, Whole}
+use Rattle.runs_on_files.specs.declared.job.Scope.{Scope}
+use Rattle.runs_on_files.specs.declared.job.Scope.TheVariants.{Part, Whole}
 
 -- the segments that are run
 abbrev pub segments_run : Scope → Segments
 segments_run Whole = All
-segments_run (Part segments) = segments.now
+segments_run (Part part) = part.segments.now
 
 -- by what a file tells of what it holds: there are files that held something, and hold what a run on these captures adds
 pub record IsRunInFiles {F : Type 0} (contents : F → Option (List ℕ)) (taken : List Event → List Event) (segments : Segments)

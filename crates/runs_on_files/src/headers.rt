@@ -1,7 +1,7 @@
 //! A look at how captures begin, before an output is emptied.
 use capture_run::RunFault;
-use pcap_io::CaptureFault;
-use pcap_stream::{Source, SourceFault};
+use pcap::stream::{Source, SourceFault};
+use pcap::text::CaptureFault;
 use program_faults::Failure;
 use program_files::{ClassicInput, Names, is_read_once, open_front};
 use std::io::{Input, Read};

@@ -2,8 +2,8 @@
 ghost use Rattle.std.specs.Prelude.{◌≡◌, [], All, Ok, IfOk, length};
 ghost use Rattle.overlay_config.specs.Change.{IsRising, changes_in};
 ghost use Rattle.overlay_config.specs.Settings.{settings_in};
-ghost use Rattle.overlay_settings.specs.Rules.{EachBehind};
-ghost use Rattle.pcap_stream.specs.Block.{Block};
+ghost use Rattle.overlay.specs.Rules.{EachBehind};
+ghost use Rattle.pcap.specs.Block.{Block};
 ghost use Rattle.program_files.specs.Held.{AreHeld, handed_on, written};
 ghost use Rattle.runs_on_files.specs.Held.{IsRunInto};
 ghost use Rattle.stream_run.specs.Begun.{IsUnread};
@@ -11,39 +11,49 @@ ghost use Rattle.stream_run.specs.Begun.{IsUnread};
 use crate::run_captures::{RunCaptures, failure_of};
 use program_faults::Failure;
 use program_files::{FailedOutputs, HandedOn, Names, Outputs as OutputFiles};
-use segment_set::SegmentSet;
 use std::alloc::Global;
 use std::io::{Read, Write};
-use stream_run::{Outputs, ReadTexts, Sieve, Watch, run_sieved};
+use stream_run::{Job, Outputs, Sieve, Watch, run};
 
-/// Runs on captures of which nothing is read yet, with the settings and the changes that the texts mean, into these outputs. It
+/// A run whose texts were read, and the outputs that it goes into.
+#[derive(Drop)]
+pub(crate) struct WrittenJob<'j, 'a, O: Write + Drop> {
+    pub(crate) names: Names<'j, 'a>,
+    pub(crate) run: Job<'j>,
+    pub(crate) outputs: OutputFiles<O>,
+}
+
+/// Runs on captures of which nothing is read yet, with the settings and the changes that the texts mean, into the outputs. It
 /// answers them with no block that holds anything back.
 pub(crate) fn run_into<'a, F: Read + Drop, I: Read + Drop, O: Write + Drop, S: Sieve, T: Watch>(
     alloc: Global,
-    names: Names<'_, 'a>,
-    read: ReadTexts<'_>,
-    outputs: OutputFiles<O>,
-    segments: &SegmentSet,
+    job: WrittenJob<'_, 'a, O>,
     captures: &mut RunCaptures<'a, F, I>,
     sieve: &mut S,
     watch: &mut T,
     failed: &mut FailedOutputs,
 ) -> Result<HandedOn<O>, Failure<'a>>
-    requires settings { settings_in read.settings_text.now ≡ Ok read.settings }
-    requires told { changes_in read.changes_text.now ≡ Ok read.changes.now }
-    requires rising { EachBehind IsRising [] read.changes.now }
-    requires outputs { length outputs.ports.items ≡ length captures.old.ports.items }
+    requires settings { settings_in job.run.settings_text.now ≡ Ok job.run.settings }
+    requires told { changes_in job.run.changes_text.now ≡ Ok job.run.changes.now }
+    requires rising { EachBehind IsRising [] job.run.changes.now }
+    requires outputs { length job.outputs.ports.items ≡ length captures.old.ports.items }
     requires ports { All IsUnread captures.old.ports.items }
     requires underlay { IsUnread captures.old.underlay }
     ensures handed_ports { IfOk result (λ files. All (λ (b : Block). b.held ≡ []) files.ports.items) }
     ensures handed_underlay { IfOk result (λ files. files.underlay.held ≡ []) }
     ensures handed_decisions { IfOk result (λ files. files.decisions.held ≡ []) }
-    ensures run { IfOk result (λ files. IsRunInto (S.taken sieve.old) segments.now (settings_in read.entry.settings_text.now)
-        (changes_in read.entry.changes_text.now)
+    ensures run { IfOk result (λ files. IsRunInto (S.taken sieve.old) job.entry.run.segments.now
+        (settings_in job.entry.run.settings_text.now) (changes_in job.entry.run.changes_text.now)
         captures.old.ports.items captures.old.underlay captures.new.ports.items captures.new.underlay
-        (written outputs.ports.items outputs.underlay outputs.decisions) (handed_on files.ports.items files.underlay files.decisions)) }
+        (written job.entry.outputs.ports.items job.entry.outputs.underlay job.entry.outputs.decisions)
+        (handed_on files.ports.items files.underlay files.decisions)) }
     ensures in_files { IfOk result (λ files. AreHeld O.contents (handed_on files.ports.items files.underlay files.decisions)) }
 {
+    let WrittenJob {
+        names,
+        run: asked,
+        outputs,
+    } = job;
     let OutputFiles {
         ports,
         underlay,
@@ -55,7 +65,7 @@ pub(crate) fn run_into<'a, F: Read + Drop, I: Read + Drop, O: Write + Drop, S: S
         underlay,
         decisions,
     };
-    let run = run_sieved(alloc, read, captures, &mut written, segments, sieve, watch);
+    let end = run(alloc, asked, captures, &mut written, sieve, watch);
     let Outputs {
         ports,
         underlay,
@@ -67,7 +77,7 @@ pub(crate) fn run_into<'a, F: Read + Drop, I: Read + Drop, O: Write + Drop, S: S
         decisions,
         part_file,
     };
-    match run {
+    match end {
         Ok(()) => match outputs.finish(alloc, failed) {
             Ok(files) => Ok(files),
             Err(failure) => Err(failure),

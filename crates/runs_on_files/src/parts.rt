@@ -1,36 +1,28 @@
 //! Parts of a run: some of its segments, and what they were made from.
-ghost use Rattle.std.specs.Prelude.{◌≡◌, [], Ok, IfOk, IfSome};
-ghost use Rattle.overlay_config.specs.Change.{IsRising, changes_in};
-ghost use Rattle.overlay_config.specs.Settings.{settings_in};
-ghost use Rattle.overlay_settings.specs.Rules.{EachBehind};
-ghost use Rattle.runs_on_files.specs.Files.{IsRunOnFiles};
+ghost use Rattle.std.specs.Prelude.{IfOk};
 ghost use Rattle.part_record.specs.Lent.{HaveOctets};
 
 use crate::digests::{lent_digests, take_digests};
+use crate::done::Done;
+use crate::job::{Job, ListedPart, Scope};
 use crate::outbound::Outbound;
-use crate::runs::{Done, Scope, run_on_files};
-use crate::texts::Texts;
 use arrayvec::ArrayVec;
 use capture_run::RunFault;
-use overlay_config::TimedChange;
 use part_record::{
     CaptureDigests, LentFault, MOST_PORTS, OutputFacts, PartRecord, ToldOutputs, see_octets,
     text_of,
 };
 use program_faults::{DigestsFailure, Failure, OutputFile};
-use program_files::{
-    Destination, FailedOutputs, Names, OutputSums, PartLines, PartRecordFile, count_lines,
-};
+use program_files::{Names, OutputSums, PartLines, PartRecordFile, count_lines};
 use segment_set::SegmentSet;
 use sha2::{Digest, Sha256};
 use std::alloc::Global;
 use std::io::{Input, Write};
 use std::rt::Files;
-use stream_run::{Sieve, Watch};
 use text_calls::tap_of;
 use timeline::Tap;
 
-/// A run whose outputs are written.
+/// A run that is done.
 #[derive(Drop)]
 pub struct Ran<F: Drop> {
     /// The captures of which the rest is cut and is told. Of a part they stand in the one that has what comes to no segment.
@@ -44,8 +36,8 @@ pub struct Ran<F: Drop> {
 }
 
 impl<F: Write + Drop> Ran<F> {
-    /// A whole run.
-    pub fn whole(alloc: Global, cut: Vec<Tap>, outbound: Vec<Outbound>) -> Ran<F> {
+    /// A run that doesn't say what it was made from.
+    fn whole(alloc: Global, cut: Vec<Tap>, outbound: Vec<Outbound>) -> Ran<F> {
         Ran {
             cut,
             outbound,
@@ -63,60 +55,28 @@ impl<F: Write + Drop> Ran<F> {
     }
 }
 
-/// Runs these segments, which a list names, on captures, and writes what comes out of them into a folder. What the part was
-/// made from is still to be written.
-///
-/// Where no digests of the captures are lent, these are read a second time for them, so that none of them may be one that can
-/// be read only once. Each way the captures have to have as many octets as the digests tell, so that a part of a capture that
-/// grew or was cut in the meantime is refused.
-///
-/// `told` are the changes that their text means, where it was read before, as [`Texts::changes_read`] answers them: then it
-/// isn't read again. `both` is how long behind its frame what the switch itself sent may come that the sieve leaves out, in
-/// nanoseconds, where it leaves that out.
-pub fn run_part<'a, R: Files + Input + AllocGlobal, S: Sieve, T: Watch>(
+/// What a run leaves that is done: of a part that is written also what it was made from, with the digests that were lent to it.
+pub(crate) fn ran_of<'a, R: Files + Input + AllocGlobal>(
     rt: &R,
-    names: Names<'_, 'a>,
-    texts: &Texts,
-    told: Option<&[TimedChange]>,
-    folder: Destination<'_>,
-    list: &'a str,
-    segments: &SegmentSet,
-    both: Option<u64>,
-    sieve: &mut S,
-    watch: &mut T,
-    failed: &mut FailedOutputs,
-) -> Result<Ran<R::File>, Failure<'a>>
-    requires told { IfSome told (λ t. changes_in texts.now.changes.items ≡ Ok t.now) }
-    requires rising { IfSome told (λ t. EachBehind IsRising [] t.now) }
-    ensures run { IfOk result (λ _. IsRunOnFiles R.File.remaining R.Reader.remaining R.File.contents (S.taken sieve.old) segments.now
-        (settings_in texts.now.settings.items) (changes_in texts.now.changes.items)
-        names.entry.ports.now names.entry.underlay.now) }
-{
-    let lent = match lent_to(rt, names) {
-        Ok(lent) => lent,
-        Err(failure) => return Err(failure),
-    };
+    job: Job<'_, 'a>,
+    lent: Option<(&'a str, CaptureDigests)>,
+    done: Done<R::File>,
+) -> Result<Ran<R::File>, Failure<'a>> {
     let Done {
         cut,
         outbound,
         ports,
         underlay,
         part_file,
-    } = match run_on_files(
-        rt,
-        names,
-        texts,
-        told,
-        Some(folder),
-        Scope::Part(segments),
-        sieve,
-        watch,
-        failed,
-    ) {
-        Ok(done) => done,
-        Err(failure) => return Err(failure),
+    } = done;
+    let Scope::Part(part) = job.scope else {
+        return Ok(Ran::whole(rt.alloc(), cut, outbound));
     };
-    let digests = match digests_behind(rt, names, lent, ports.as_slice(), underlay) {
+    let cut = cut_told(rt.alloc(), cut, part.segments);
+    let (Some(folder), Some(part_file)) = (job.folder, part_file) else {
+        return Ok(Ran::whole(rt.alloc(), cut, outbound));
+    };
+    let digests = match digests_behind(rt, job.names, lent, ports.as_slice(), underlay) {
         Ok(digests) => digests,
         Err(failure) => return Err(failure),
     };
@@ -124,19 +84,14 @@ pub fn run_part<'a, R: Files + Input + AllocGlobal, S: Sieve, T: Watch>(
         Ok(lines) => lines,
         Err(failure) => return Err(failure),
     };
-    let made = record_of_part(names, texts, list, both, &digests, lines.events);
-    let (part_file, record) = match part_file {
-        Some(PartRecordFile { file, sums }) => {
-            let outputs = outputs_told(&lines, &sums);
-            (Some(file), text_of(rt.alloc(), &made, outputs.as_slice())?)
-        }
-        None => (None, Vec::new(rt.alloc())),
-    };
-    let cut = cut_told(rt.alloc(), cut, segments);
+    let PartRecordFile { file, sums } = part_file;
+    let made = record_of_part(job, part, &digests, lines.events);
+    let outputs = outputs_told(&lines, &sums);
+    let record = text_of(rt.alloc(), &made, outputs.as_slice())?;
     Ok(Ran {
         cut,
         outbound,
-        part_file,
+        part_file: Some(file),
         record,
     })
 }
@@ -181,40 +136,6 @@ fn outputs_told(lines: &PartLines, sums: &OutputSums) -> ToldOutputs {
     outputs
 }
 
-/// Runs the segments of a list, or all, on captures as [`run_part`] does and as a whole run does, and writes nothing: what
-/// looks on sees the same run. Captures are read once, and no digests of them.
-pub fn run_unwritten<'a, R: Files + Input + AllocGlobal, S: Sieve, T: Watch>(
-    rt: &R,
-    names: Names<'_, 'a>,
-    texts: &Texts,
-    told: Option<&[TimedChange]>,
-    segments: &SegmentSet,
-    sieve: &mut S,
-    watch: &mut T,
-) -> Result<Ran<R::File>, Failure<'a>>
-    requires told { IfSome told (λ t. changes_in texts.now.changes.items ≡ Ok t.now) }
-    requires rising { IfSome told (λ t. EachBehind IsRising [] t.now) }
-{
-    let mut none = FailedOutputs::new();
-    match run_on_files(
-        rt,
-        names,
-        texts,
-        told,
-        None,
-        Scope::Part(segments),
-        sieve,
-        watch,
-        &mut none,
-    ) {
-        Ok(done) => {
-            let cut = cut_told(rt.alloc(), done.cut, segments);
-            Ok(Ran::whole(rt.alloc(), cut, done.outbound))
-        }
-        Err(failure) => Err(failure),
-    }
-}
-
 /// The cut captures that these segments tell: those of the whole run, where they have what comes to no segment.
 fn cut_told(alloc: Global, cut: Vec<Tap>, segments: &SegmentSet) -> Vec<Tap> {
     if segments.has(None) {
@@ -233,11 +154,16 @@ fn write_part_record<F: Write + Drop>(file: F, text: &[u8]) -> Result<(), Failur
     }
 }
 
-/// The digests that are lent to a part, with the name of their file, where there are any; else its captures can be read twice.
-fn lent_to<'a, R: Files + AllocGlobal>(
+/// The digests that are lent to a part that is written, with the name of their file, where there are any; else its captures can
+/// be read twice. To all else none are lent.
+pub(crate) fn lent_to<'a, R: Files + AllocGlobal>(
     rt: &R,
-    names: Names<'_, 'a>,
+    job: Job<'_, 'a>,
 ) -> Result<Option<(&'a str, CaptureDigests)>, Failure<'a>> {
+    if job.folder.is_none() || !job.scope.is_part() {
+        return Ok(None);
+    }
+    let names = job.names;
     match names.digests {
         Some(name) => match lent_digests(rt, name, names.ports.len()) {
             Ok(digests) => Ok(Some((name, digests))),
@@ -294,30 +220,28 @@ fn own_digests<'a, R: Files + Input + AllocGlobal>(
 }
 
 /// What a part with so many events was made from.
-fn record_of_part<'a>(
-    names: Names<'_, 'a>,
-    texts: &Texts,
-    segments: &'a str,
-    both: Option<u64>,
+fn record_of_part<'p>(
+    job: Job<'_, '_>,
+    part: ListedPart<'p>,
     digests: &CaptureDigests,
     events: u64,
-) -> PartRecord<'a> {
+) -> PartRecord<'p> {
     let mut ports = ArrayVec::<[u8; 32], MOST_PORTS>::new();
     for digest in digests.ports.as_slice() {
         // There is room for as many as there are digests.
         let _ = ports.try_push(digest.sum);
     }
     PartRecord {
-        segments,
-        settings: digest_of_text(texts.settings.as_slice()),
-        changes: if names.changes.is_some() {
-            Some(digest_of_text(texts.changes.as_slice()))
+        segments: part.list,
+        settings: digest_of_text(job.texts.settings.as_slice()),
+        changes: if job.names.changes.is_some() {
+            Some(digest_of_text(job.texts.changes.as_slice()))
         } else {
             None
         },
         ports,
         underlay: digests.underlay.sum,
-        both,
+        both: part.both,
         events,
     }
 }

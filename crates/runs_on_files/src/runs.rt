@@ -2,69 +2,42 @@
 ghost use Rattle.std.specs.Prelude.{◌≡◌, List, [], All, Ok, IfOk, IfSome};
 ghost use Rattle.overlay_config.specs.Change.{IsRising, changes_in};
 ghost use Rattle.overlay_config.specs.Settings.{settings_in};
-ghost use Rattle.overlay_settings.specs.Rules.{EachBehind};
-ghost use Rattle.pcap_stream.specs.Source.{Stream};
+ghost use Rattle.overlay.specs.Rules.{EachBehind};
+ghost use Rattle.pcap.specs.Source.{Stream};
 ghost use Rattle.runs_on_files.specs.Files.{IsRunInFiles, IsRunOnFiles, segments_run};
-ghost use Rattle.runs_on_files.specs.declared.runs.Scope.TheVariants.{Whole};
+ghost use Rattle.runs_on_files.specs.declared.job.Scope.TheVariants.{Whole};
 ghost use Rattle.stream_run.specs.Begun.{IsUnread};
 
-use crate::in_folder::run_in_folder;
-use crate::outbound::{Outbound, outbound_of};
-use crate::run_captures::{RunCaptures, cut_taps, failure_of, octets_read};
-use crate::texts::Texts;
+use crate::done::{Done, done_on};
+use crate::in_folder::prepare_outputs;
+use crate::into_outputs::{WrittenJob, run_into};
+use crate::job::{Job, Scope};
+use crate::parts::{Ran, lent_to, ran_of};
+use crate::run_captures::{RunCaptures, failure_of};
 use crate::unwritten::run_into_nothing;
 use capture_run::{RunFault, of_changes, of_settings};
 use overlay_config::{Settings, TimedChange, changes_of, settings_of};
 use program_faults::Failure;
-use program_files::{
-    Destination, FailedOutputs, Names, PartRecordFile, open_capture, open_captures,
-};
+use program_files::{FailedOutputs, PartRecordFile, open_capture, open_captures};
 use segment_set::SegmentSet;
-use std::alloc::{AllocError, Global};
-use std::io::{Input, Read};
+use std::io::Input;
 use std::rt::Files;
-use stream_run::{Captures, ReadTexts, Sieve, Watch};
-use timeline::Tap;
+use stream_run::{Captures, Job as RunJob, Sieve, Watch};
 
-/// Which segments of a run are run.
-#[derive(Clone, Copy)]
-pub enum Scope<'s> {
-    /// All.
-    Whole,
-    /// These, as a part.
-    Part(&'s SegmentSet),
-}
-
-impl Scope<'_> {
-    /// Whether it is a part.
-    fn is_part(self) -> bool {
-        match self {
-            Scope::Whole => false,
-            Scope::Part(_) => true,
-        }
-    }
-}
-
-/// What a run leaves besides its outputs.
+/// A job whose texts were read.
 #[derive(Drop)]
-pub struct Done<F: Drop> {
-    /// The captures of which the rest is cut, ports rising and the underlay last.
-    pub cut: Vec<Tap>,
-    /// What they tell as outbound, which was left out.
-    pub outbound: Vec<Outbound>,
-    /// How many octets the captures of the ports had, as classic pcap.
-    pub ports: Vec<u64>,
-    /// And how many that of the underlay.
-    pub underlay: u64,
-    /// The empty file in which a part is to say what it was made from, and the sums of its outputs.
-    pub part_file: Option<PartRecordFile<F>>,
+struct ReadJob<'j, 'a> {
+    job: Job<'j, 'a>,
+    settings: Settings,
+    changes: &'j [TimedChange],
 }
 
-/// Runs on captures, and writes what comes out into a folder as it comes; where no folder is named nothing is made or written.
-/// Someone looks on, who sees the same run each way.
+/// Runs on captures, and writes what comes out into a folder as it comes, where one is named. Someone looks on, who sees the same
+/// run each way. What a part that is written was made from is still to be written.
 ///
-/// `told` are the changes that their text means, where it was read before, as [`Texts::changes_read`] answers them: then it
-/// isn't read again.
+/// Where no digests of the captures are lent to such a part, these are read a second time for them, so that none of them may be
+/// one that can be read only once. Each way the captures have to have as many octets as the digests tell, so that a part of a
+/// capture that grew or was cut in the meantime is refused. Else captures are read once.
 ///
 /// Where the settings, the changes or the number of captures are refused, an output is one of the files that are read, or more
 /// files would be open at once than the system lets be (of less than 200 that isn't tried), nothing is made or written; where
@@ -72,27 +45,52 @@ pub struct Done<F: Drop> {
 /// outputs that couldn't be written are noted, wherever it stops.
 pub fn run_on_files<'a, R: Files + Input + AllocGlobal, S: Sieve, T: Watch>(
     rt: &R,
-    names: Names<'_, 'a>,
-    texts: &Texts,
-    told: Option<&[TimedChange]>,
-    folder: Option<Destination<'_>>,
-    scope: Scope<'_>,
+    job: Job<'_, 'a>,
+    sieve: &mut S,
+    watch: &mut T,
+    failed: &mut FailedOutputs,
+) -> Result<Ran<R::File>, Failure<'a>>
+    requires told { IfSome job.changes (λ t. changes_in job.texts.now.changes.items ≡ Ok t.now) }
+    requires rising { IfSome job.changes (λ t. EachBehind IsRising [] t.now) }
+    ensures run { IfOk result (λ _. IfSome job.entry.folder
+        (λ _. IsRunOnFiles R.File.remaining R.Reader.remaining R.File.contents (S.taken sieve.old)
+        (segments_run job.entry.scope) (settings_in job.entry.texts.now.settings.items)
+        (changes_in job.entry.texts.now.changes.items) job.entry.names.ports.now job.entry.names.underlay.now)) }
+{
+    let lent = match lent_to(rt, job) {
+        Ok(lent) => lent,
+        Err(failure) => return Err(failure),
+    };
+    let done = match run_on_names(rt, job, sieve, watch, failed) {
+        Ok(done) => done,
+        Err(failure) => return Err(failure),
+    };
+    match ran_of(rt, job, lent, done) {
+        Ok(ran) => Ok(ran),
+        Err(failure) => Err(failure),
+    }
+}
+
+/// Runs on the captures of its names.
+fn run_on_names<'a, R: Files + Input + AllocGlobal, S: Sieve, T: Watch>(
+    rt: &R,
+    job: Job<'_, 'a>,
     sieve: &mut S,
     watch: &mut T,
     failed: &mut FailedOutputs,
 ) -> Result<Done<R::File>, Failure<'a>>
-    requires told { IfSome told (λ t. changes_in texts.now.changes.items ≡ Ok t.now) }
-    requires rising { IfSome told (λ t. EachBehind IsRising [] t.now) }
-    ensures run { IfOk result (λ _. IfSome folder.entry
+    requires told { IfSome job.changes (λ t. changes_in job.texts.now.changes.items ≡ Ok t.now) }
+    requires rising { IfSome job.changes (λ t. EachBehind IsRising [] t.now) }
+    ensures run { IfOk result (λ _. IfSome job.entry.folder
         (λ _. IsRunOnFiles R.File.remaining R.Reader.remaining R.File.contents (S.taken sieve.old)
-        (segments_run scope.entry) (settings_in texts.now.settings.items) (changes_in texts.now.changes.items)
-        names.entry.ports.now names.entry.underlay.now)) }
+        (segments_run job.entry.scope) (settings_in job.entry.texts.now.settings.items)
+        (changes_in job.entry.texts.now.changes.items) job.entry.names.ports.now job.entry.names.underlay.now)) }
 {
-    let underlay = match open_capture(rt, names.underlay) {
+    let underlay = match open_capture(rt, job.names.underlay) {
         Ok(underlay) => underlay,
         Err(failure) => return Err(failure),
     };
-    let ports = match open_captures(rt, names.ports) {
+    let ports = match open_captures(rt, job.names.ports) {
         Ok(ports) => ports,
         Err(failure) => return Err(failure),
     };
@@ -100,48 +98,31 @@ pub fn run_on_files<'a, R: Files + Input + AllocGlobal, S: Sieve, T: Watch>(
     let captures = Captures {
         ports,
         underlay,
-        may_wait: !names.are_regular_files(rt),
+        may_wait: !job.names.are_regular_files(rt),
     };
-    run_on_opened(
-        rt, names, texts, told, folder, scope, captures, sieve, watch, failed,
-    )
+    run_on_opened(rt, job, captures, sieve, watch, failed)
 }
 
 /// The same on captures of which nothing is read yet.
 fn run_on_opened<'a, R: Files + Input + AllocGlobal, S: Sieve, T: Watch>(
     rt: &R,
-    names: Names<'_, 'a>,
-    texts: &Texts,
-    told: Option<&[TimedChange]>,
-    folder: Option<Destination<'_>>,
-    scope: Scope<'_>,
+    job: Job<'_, 'a>,
     captures: RunCaptures<'a, R::File, R::Reader>,
     sieve: &mut S,
     watch: &mut T,
     failed: &mut FailedOutputs,
 ) -> Result<Done<R::File>, Failure<'a>>
-    requires told { IfSome told (λ t. changes_in texts.now.changes.items ≡ Ok t.now) }
-    requires rising { IfSome told (λ t. EachBehind IsRising [] t.now) }
+    requires told { IfSome job.changes (λ t. changes_in job.texts.now.changes.items ≡ Ok t.now) }
+    requires rising { IfSome job.changes (λ t. EachBehind IsRising [] t.now) }
     requires ports { All IsUnread captures.ports.items }
     requires underlay { IsUnread captures.underlay }
-    ensures run { IfOk result (λ _. IfSome folder.entry (λ _. (new_ports : List Stream) × (new_underlay : Stream)
-        × IsRunInFiles R.File.contents (S.taken sieve.old) (segments_run scope.entry)
-        (settings_in texts.now.settings.items) (changes_in texts.now.changes.items)
+    ensures run { IfOk result (λ _. IfSome job.entry.folder (λ _. (new_ports : List Stream) × (new_underlay : Stream)
+        × IsRunInFiles R.File.contents (S.taken sieve.old) (segments_run job.entry.scope)
+        (settings_in job.entry.texts.now.settings.items) (changes_in job.entry.texts.now.changes.items)
         captures.entry.ports.items captures.entry.underlay new_ports new_underlay)) }
 {
     let mut captures = captures;
-    let part_file = match run_on_captures(
-        rt,
-        names,
-        texts,
-        told,
-        folder,
-        scope,
-        &mut captures,
-        sieve,
-        watch,
-        failed,
-    ) {
+    let part_file = match run_on_captures(rt, job, &mut captures, sieve, watch, failed) {
         Ok(part_file) => part_file,
         Err(failure) => return Err(failure),
     };
@@ -157,47 +138,42 @@ fn run_on_opened<'a, R: Files + Input + AllocGlobal, S: Sieve, T: Watch>(
 /// The settings are looked at first, then the changes, and then the number of captures.
 fn run_on_captures<'a, R: Files + Input + AllocGlobal, S: Sieve, T: Watch>(
     rt: &R,
-    names: Names<'_, 'a>,
-    texts: &Texts,
-    told: Option<&[TimedChange]>,
-    folder: Option<Destination<'_>>,
-    scope: Scope<'_>,
+    job: Job<'_, 'a>,
     captures: &mut RunCaptures<'a, R::File, R::Reader>,
     sieve: &mut S,
     watch: &mut T,
     failed: &mut FailedOutputs,
 ) -> Result<Option<PartRecordFile<R::File>>, Failure<'a>>
-    requires told { IfSome told (λ t. changes_in texts.now.changes.items ≡ Ok t.now) }
-    requires rising { IfSome told (λ t. EachBehind IsRising [] t.now) }
+    requires told { IfSome job.changes (λ t. changes_in job.texts.now.changes.items ≡ Ok t.now) }
+    requires rising { IfSome job.changes (λ t. EachBehind IsRising [] t.now) }
     requires ports { All IsUnread captures.old.ports.items }
     requires underlay { IsUnread captures.old.underlay }
-    ensures run { IfOk result (λ _. IfSome folder.entry (λ _. IsRunInFiles R.File.contents (S.taken sieve.old) (segments_run scope.entry)
-        (settings_in texts.now.settings.items) (changes_in texts.now.changes.items)
+    ensures run { IfOk result (λ _. IfSome job.entry.folder (λ _. IsRunInFiles R.File.contents (S.taken sieve.old)
+        (segments_run job.entry.scope)
+        (settings_in job.entry.texts.now.settings.items) (changes_in job.entry.texts.now.changes.items)
         captures.old.ports.items captures.old.underlay captures.new.ports.items captures.new.underlay)) }
 {
-    let settings = match settings_of(rt.alloc(), texts.settings.as_slice()) {
+    let settings = match settings_of(rt.alloc(), job.texts.settings.as_slice()) {
         Ok(settings) => settings,
         Err(fault) => return Err(Failure::Run(of_settings(fault))),
     };
-    if let Some(told) = told {
-        return run_on_read(
-            rt, names, texts, settings, told, folder, scope, captures, sieve, watch, failed,
-        );
-    }
-    match changes_of(rt.alloc(), texts.changes.as_slice()) {
-        Ok(told) => run_on_read(
-            rt,
-            names,
-            texts,
+    if let Some(changes) = job.changes {
+        let read = ReadJob {
+            job,
             settings,
-            told.as_slice(),
-            folder,
-            scope,
-            captures,
-            sieve,
-            watch,
-            failed,
-        ),
+            changes,
+        };
+        return run_on_read(rt, read, captures, sieve, watch, failed);
+    }
+    match changes_of(rt.alloc(), job.texts.changes.as_slice()) {
+        Ok(changes) => {
+            let read = ReadJob {
+                job,
+                settings,
+                changes: changes.as_slice(),
+            };
+            run_on_read(rt, read, captures, sieve, watch, failed)
+        }
         Err(fault) => Err(Failure::Run(of_changes(fault))),
     }
 }
@@ -205,55 +181,58 @@ fn run_on_captures<'a, R: Files + Input + AllocGlobal, S: Sieve, T: Watch>(
 /// The same with the settings and the changes that the texts mean.
 fn run_on_read<'a, R: Files + Input + AllocGlobal, S: Sieve, T: Watch>(
     rt: &R,
-    names: Names<'_, 'a>,
-    texts: &Texts,
-    settings: Settings,
-    told: &[TimedChange],
-    folder: Option<Destination<'_>>,
-    scope: Scope<'_>,
+    read: ReadJob<'_, 'a>,
     captures: &mut RunCaptures<'a, R::File, R::Reader>,
     sieve: &mut S,
     watch: &mut T,
     failed: &mut FailedOutputs,
 ) -> Result<Option<PartRecordFile<R::File>>, Failure<'a>>
-    requires settings { settings_in texts.now.settings.items ≡ Ok settings }
-    requires told { changes_in texts.now.changes.items ≡ Ok told.now }
-    requires rising { EachBehind IsRising [] told.now }
+    requires settings { settings_in read.job.texts.now.settings.items ≡ Ok read.settings }
+    requires told { changes_in read.job.texts.now.changes.items ≡ Ok read.changes.now }
+    requires rising { EachBehind IsRising [] read.changes.now }
     requires ports { All IsUnread captures.old.ports.items }
     requires underlay { IsUnread captures.old.underlay }
-    ensures run { IfOk result (λ _. IfSome folder.entry (λ _. IsRunInFiles R.File.contents (S.taken sieve.old) (segments_run scope.entry)
-        (settings_in texts.now.settings.items) (changes_in texts.now.changes.items)
+    ensures run { IfOk result (λ _. IfSome read.entry.job.folder (λ _. IsRunInFiles R.File.contents (S.taken sieve.old)
+        (segments_run read.entry.job.scope)
+        (settings_in read.entry.job.texts.now.settings.items) (changes_in read.entry.job.texts.now.changes.items)
         captures.old.ports.items captures.old.underlay captures.new.ports.items captures.new.underlay)) }
 {
+    let ReadJob {
+        job,
+        settings,
+        changes,
+    } = read;
     if settings.ports().len() != captures.ports.len() {
         return Err(Failure::Run(RunFault::PortCount));
     }
     let all = SegmentSet::all();
-    let segments = segments_in(scope, &all);
-    let read = ReadTexts {
-        settings_text: texts.settings.as_slice(),
-        changes_text: texts.changes.as_slice(),
+    let run = RunJob {
+        settings_text: job.texts.settings.as_slice(),
+        changes_text: job.texts.changes.as_slice(),
         settings,
-        changes: told,
+        changes,
+        segments: segments_in(job.scope, &all),
     };
-    let Some(folder) = folder else {
-        return match run_into_nothing(rt.alloc(), read, captures, segments, sieve, watch) {
-            Ok(()) => Ok(None),
-            Err(fault) => Err(failure_of(names, fault, captures)),
-        };
+    let Some(folder) = job.folder else {
+        if let Err(fault) = run_into_nothing(rt.alloc(), run, captures, sieve, watch) {
+            return Err(failure_of(job.names, fault, captures));
+        }
+        return Ok(None);
     };
-    run_in_folder(
-        rt,
-        names,
-        read,
-        folder,
-        scope.is_part(),
-        segments,
-        captures,
-        sieve,
-        watch,
-        failed,
-    )
+    let count = captures.ports.len();
+    let outputs = match prepare_outputs(rt, job.names, folder, job.scope.is_part(), count) {
+        Ok(outputs) => outputs,
+        Err(failure) => return Err(failure),
+    };
+    let written = WrittenJob {
+        names: job.names,
+        run,
+        outputs,
+    };
+    match run_into(rt.alloc(), written, captures, sieve, watch, failed) {
+        Ok(files) => Ok(files.into_part_record()),
+        Err(failure) => Err(failure),
+    }
 }
 
 /// The segments that are run, where these are all.
@@ -263,24 +242,6 @@ fn segments_in<'s>(scope: Scope<'s>, all: &'s SegmentSet) -> &'s SegmentSet
 {
     match scope {
         Scope::Whole => all,
-        Scope::Part(segments) => segments,
+        Scope::Part(part) => part.segments,
     }
-}
-
-/// What a run on these captures leaves besides its outputs.
-fn done_on<F: Read + Drop, I: Read + Drop>(
-    alloc: Global,
-    captures: &RunCaptures<'_, F, I>,
-    part_file: Option<PartRecordFile<F>>,
-) -> Result<Done<F>, AllocError> {
-    let cut = cut_taps(alloc, captures)?;
-    let outbound = outbound_of(alloc, captures)?;
-    let counts = octets_read(alloc, captures.ports.as_slice())?;
-    Ok(Done {
-        cut,
-        outbound,
-        ports: counts,
-        underlay: captures.underlay.input().octets(),
-        part_file,
-    })
 }

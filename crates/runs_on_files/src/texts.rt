@@ -1,7 +1,7 @@
 //! The texts of a run.
 ghost use Rattle.std.specs.Prelude.{◌≡◌, [], Ok, IfOk, IfSome, None};
 ghost use Rattle.overlay_config.specs.Change.{IsRising, changes_in};
-ghost use Rattle.overlay_settings.specs.Rules.{EachBehind};
+ghost use Rattle.overlay.specs.Rules.{EachBehind};
 
 use capture_run::{RunFault, of_changes};
 use overlay_config::{TimedChange, changes_of};

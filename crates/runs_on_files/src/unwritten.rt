@@ -2,16 +2,15 @@
 ghost use Rattle.std.specs.Prelude.{◌≡◌, [], All, Ok, IfOk, length};
 ghost use Rattle.overlay_config.specs.Change.{IsRising, changes_in};
 ghost use Rattle.overlay_config.specs.Settings.{settings_in};
-ghost use Rattle.overlay_settings.specs.Rules.{EachBehind};
+ghost use Rattle.overlay.specs.Rules.{EachBehind};
 ghost use Rattle.stream_run.specs.Begun.{IsUnread};
 
 use crate::run_captures::RunCaptures;
 use capture_run::RunFault;
-use pcap_stream::{Sink, StdOutput};
-use segment_set::SegmentSet;
+use pcap::stream::{Sink, StdOutput};
 use std::alloc::{AllocError, Global};
 use std::io::{self, Read};
-use stream_run::{Outputs, ReadTexts, Sieve, StreamFault, Watch, run_sieved};
+use stream_run::{Job, Outputs, Sieve, StreamFault, Watch, run};
 
 /// An output that takes everything and keeps nothing.
 type Unwritten = StdOutput<io::Sink>;
@@ -19,15 +18,14 @@ type Unwritten = StdOutput<io::Sink>;
 /// Runs on captures of which nothing is read yet, with the settings and the changes that the texts mean. Someone looks on.
 pub(crate) fn run_into_nothing<'a, F: Read + Drop, I: Read + Drop, S: Sieve, T: Watch>(
     alloc: Global,
-    read: ReadTexts<'_>,
+    job: Job<'_>,
     captures: &mut RunCaptures<'a, F, I>,
-    segments: &SegmentSet,
     sieve: &mut S,
     watch: &mut T,
 ) -> Result<(), StreamFault>
-    requires settings { settings_in read.settings_text.now ≡ Ok read.settings }
-    requires told { changes_in read.changes_text.now ≡ Ok read.changes.now }
-    requires rising { EachBehind IsRising [] read.changes.now }
+    requires settings { settings_in job.settings_text.now ≡ Ok job.settings }
+    requires told { changes_in job.changes_text.now ≡ Ok job.changes.now }
+    requires rising { EachBehind IsRising [] job.changes.now }
     requires ports { All IsUnread captures.old.ports.items }
     requires underlay { IsUnread captures.old.underlay }
 {
@@ -39,7 +37,7 @@ pub(crate) fn run_into_nothing<'a, F: Read + Drop, I: Read + Drop, S: Sieve, T: 
         underlay: Sink::new(unwritten()),
         decisions: unwritten(),
     };
-    run_sieved(alloc, read, captures, &mut outputs, segments, sieve, watch)
+    run(alloc, job, captures, &mut outputs, sieve, watch)
 }
 
 /// An output that keeps nothing.

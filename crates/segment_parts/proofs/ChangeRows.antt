@@ -11,8 +11,8 @@ use Rattle.config_text.specs.Fault.{Meaning, ◌>>=◌}
 use Rattle.config_text.specs.Column.{in_range, one_of, range, word_in}
 use Rattle.config_text.specs.Table.{Place, each, fits, limited_items, numbered, only, optional, optional_value, path, refuse_if, required, required_value, row_place, top}
 use Rattle.config_text.proofs.Addresses.{then_some}
-use Rattle.overlay_settings.specs.declared.change.Change.{Change}
-use Rattle.overlay_settings.specs.declared.change.TimedChange.{TimedChange}
+use Rattle.overlay.specs.declared.settings.change.Change.{Change}
+use Rattle.overlay.specs.declared.settings.change.TimedChange.{TimedChange}
 use Rattle.overlay_config.specs.Document.{document}
 use Rattle.overlay_config.specs.Change.{change_in, change_of, changes_in, changes_of, keys_of, kind_words, moment_before, most_changes}
 use Rattle.noninterference.proofs.Lists.{all-map}

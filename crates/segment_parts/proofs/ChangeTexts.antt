@@ -3,15 +3,15 @@ use Rattle.std.proofs.Common.{◌≡◌, ℕ, true, List, map, Option, Some, Ok,
 use Rattle.std.specs.List.{AllByRecursion}
 use Rattle.std.proofs.lemmas.Bool.{leb-true}
 use Rattle.toml.specs.Data.{Data, get_member, as_integer}
-use Rattle.ip_udp_view.specs.declared.addr.Addr.{Addr}
-use Rattle.ip_udp_view.specs.declared.addr.Tunnel.{Tunnel}
-use Rattle.frame_view.specs.Tag.{IsVid}
+use Rattle.wire.specs.declared.ip_udp.addr.Addr.{Addr}
+use Rattle.wire.specs.declared.ip_udp.addr.Tunnel.{Tunnel}
+use Rattle.wire.specs.Tag.{IsVid}
 use Rattle.config_text.specs.Fault.{◌>>=◌}
 use Rattle.config_text.specs.Column.{in_range, one_of, range, truth}
 use Rattle.config_text.specs.Table.{Place, path, required}
 use Rattle.config_text.proofs.Addresses.{then_some}
-use Rattle.overlay_settings.specs.declared.change.NewSegment.{NewSegment}
-use Rattle.overlay_settings.specs.declared.change.TimedChange.{TimedChange}
+use Rattle.overlay.specs.declared.settings.change.NewSegment.{NewSegment}
+use Rattle.overlay.specs.declared.settings.change.TimedChange.{TimedChange}
 use Rattle.overlay_config.specs.CommonRules.{common_of}
 use Rattle.overlay_config.specs.Change.{addr_at, any_number, change_in, changes_in, egress_words, kind_words, mac_at, new_segment_of, new_tunnels_of, port_at, remote_of, target_of, tunnel_at, vid_at}
 use Rattle.segment_parts.specs.Pieces.{NamesVid}

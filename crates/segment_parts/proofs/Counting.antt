@@ -2,7 +2,7 @@
 use Rattle.std.proofs.Common.{◌≡◌, ℕ, ◌+◌, Bool, true, false, cond, ◌&&◌, min, List, [], ◌∷◌, map, Option, Some, None, refl, sym, ap, ◌∙◌}
 use Rattle.std.specs.List.{AllByRecursion}
 use Rattle.std.proofs.lemmas.Bool.{eqb-true, false≢true}
-use Rattle.frame_view.specs.declared.reason.Reason.{Reason}
+use Rattle.wire.specs.declared.ether.reason.Reason.{Reason}
 use Rattle.endpoint_core.specs.Counts.{Mark, Counts, mark_sent, marks_by, marks_of, most, same_segment, is_mark, one_more, counted_all, counted}
 use Rattle.endpoint_core.specs.Decision.{Sent, Decision}
 

@@ -4,16 +4,16 @@ use Rattle.std.specs.Prelude.{is_none}
 use Rattle.std.specs.Option.{option_and_then}
 use Rattle.std.proofs.Math.Nat.{le_refl}
 use Rattle.std.proofs.lemmas.Bool.{eqb-true, false≢true}
-use Rattle.frame_view.specs.declared.reason.Refused.{Refused}
+use Rattle.wire.specs.declared.ether.reason.Refused.{Refused}
 use Rattle.filter_db.specs.Table.{Table}
-use Rattle.overlay_settings.specs.declared.change.Change.{Change}
-use Rattle.overlay_settings.specs.Change.{named}
-use Rattle.endpoint_state.specs.declared.fault.ChangeFault.{ChangeFault}
-use Rattle.endpoint_state.specs.Settings.{Settings, segment_at}
-use Rattle.endpoint_state.specs.Change.{refused, table_fault}
-use Rattle.endpoint_state.specs.State.{State as Bridges, live_in, aged, fault, table_changed, accepted_state, after_change}
-use Rattle.endpoint_state.specs.Step.{table_learned, verdict_in}
-use Rattle.endpoint_core.specs.Came.{Came}
+use Rattle.overlay.specs.declared.settings.change.Change.{Change}
+use Rattle.overlay.specs.Change.{named}
+use Rattle.endpoint_core.specs.declared.state.fault.ChangeFault.{ChangeFault}
+use Rattle.endpoint_core.specs.Settings.{Settings, segment_at}
+use Rattle.endpoint_core.specs.Change.{refused, table_fault}
+use Rattle.endpoint_core.specs.State.{State as Bridges, live_in, aged, fault, table_changed, accepted_state, after_change}
+use Rattle.endpoint_core.specs.StateStep.{table_learned, verdict_in}
+use Rattle.endpoint_core.specs.Arrival.{Arrival}
 use Rattle.endpoint_core.specs.Arrival.{came_at, came_by}
 use Rattle.endpoint_core.specs.Event.{Input, FrameAt, Packet, Asks}
 use Rattle.endpoint_core.specs.Step.{Decided, Replied, by_verdict, decided, after_came, answer_by, bridges_after}
@@ -49,7 +49,7 @@ module _ (p : Option ℕ → Bool) where
 
   -- ---- what is answered
 
-  decided-held : (t : ℕ) (S : Settings) (m n : ℕ → Table) → Held m n → (r : Result Came Refused) → p (segment_of r) ≡ true → decided t (bridges S m) r ≡ decided t (bridges S n) r
+  decided-held : (t : ℕ) (S : Settings) (m n : ℕ → Table) → Held m n → (r : Result Arrival Refused) → p (segment_of r) ≡ true → decided t (bridges S m) r ≡ decided t (bridges S n) r
   decided-held t S m n h (Ok x) own =
       ap (λ (M : Table). by_verdict S x (verdict_in S.ports (segment_at S x.vid) x.from x.frame (cond (x.vid == x.vid) (table_learned t x.from x.frame (segment_at S x.vid) M) M))) (h x.vid own)
   decided-held t S m n h (Err refused) own = refl
@@ -74,7 +74,7 @@ module _ (p : Option ℕ → Bool) where
 
   -- ---- the bridges after an event
 
-  came-held : (t : ℕ) (S : Settings) (m n : ℕ → Table) → Held m n → (r : Result Came Refused) → Alike p (after_came t (bridges S m) r) (after_came t (bridges S n) r)
+  came-held : (t : ℕ) (S : Settings) (m n : ℕ → Table) → Held m n → (r : Result Arrival Refused) → Alike p (after_came t (bridges S m) r) (after_came t (bridges S n) r)
   came-held t S m n h (Ok x) = record {
     settings = refl;
     tables = λ vid held. ap (λ (M : Table). cond (vid == x.vid) (table_learned t x.from x.frame (segment_at S vid) M) M) (h vid held);
@@ -100,7 +100,7 @@ module _ (p : Option ℕ → Bool) where
       (after-held t B.settings B.tables C.tables h.tables i)
 
   -- one takes a frame or a packet that isn't told to the other
-  pub came-passed : (t : ℕ) (B C : Bridges) → Alike p B C → (r : Result Came Refused) → p (segment_of r) ≡ false → Alike p (after_came t B r) C
+  pub came-passed : (t : ℕ) (B C : Bridges) → Alike p B C → (r : Result Arrival Refused) → p (segment_of r) ≡ false → Alike p (after_came t B r) C
   came-passed t B C h (Ok x) other = record {
     settings = h.settings;
     tables = λ vid held. by vid held (vid == x.vid) refl ∙ h.tables vid held;

@@ -9,12 +9,12 @@ use Rattle.timeline.specs.Order.{IsRising as AreInOrder}
 use Rattle.timeline.specs.Timeline.{Timeline, told}
 use Rattle.timeline.specs.declared.fault.TimelineFault.{TimelineFault}
 use Rattle.timeline.specs.declared.event.Event.{Event as Happens}
-use Rattle.overlay_settings.specs.Rules.{MeetsRules}
-use Rattle.overlay_settings.specs.Settings.{Settings as Rules}
-use Rattle.overlay_settings.specs.declared.change.Change.{Change}
-use Rattle.overlay_settings.specs.declared.change.TimedChange.{TimedChange}
-use Rattle.endpoint_state.specs.Opened.{settings_told}
-use Rattle.endpoint_state.specs.Settings.{Settings}
+use Rattle.overlay.specs.Rules.{MeetsRules}
+use Rattle.overlay.specs.Settings.{Settings as Rules}
+use Rattle.overlay.specs.declared.settings.change.Change.{Change}
+use Rattle.overlay.specs.declared.settings.change.TimedChange.{TimedChange}
+use Rattle.endpoint_core.specs.Opened.{settings_told}
+use Rattle.endpoint_core.specs.Settings.{Settings}
 use Rattle.endpoint_core.specs.Counts.{Counts}
 use Rattle.endpoint_core.specs.Event.{Event}
 use Rattle.endpoint_core.specs.Step.{Answer, opened, state_after}

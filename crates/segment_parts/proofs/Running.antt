@@ -6,9 +6,9 @@ use Rattle.std.proofs.lemmas.Grind.{flat_map-append}
 use Rattle.timeline.specs.Order.{IsRising}
 use Rattle.timeline.specs.Timeline.{Timeline}
 use Rattle.timeline.specs.declared.event.Event.{Event as Happens}
-use Rattle.overlay_settings.specs.declared.change.Change.{Change}
-use Rattle.endpoint_state.specs.Settings.{Settings}
-use Rattle.endpoint_state.specs.State.{aged}
+use Rattle.overlay.specs.declared.settings.change.Change.{Change}
+use Rattle.endpoint_core.specs.Settings.{Settings}
+use Rattle.endpoint_core.specs.State.{aged}
 use Rattle.endpoint_core.specs.Event.{Event}
 use Rattle.endpoint_core.specs.Step.{State, Answer, opened, answer, answers, after}
 use Rattle.endpoint_core.proofs.Runs.{answers-decisions}

@@ -4,8 +4,8 @@ use Rattle.std.proofs.Math.Path.{fun_ext}
 use Rattle.std.specs.List.{flat_map}
 use Rattle.std.specs.FinMap.{entries}
 use Rattle.segment_set.specs.Segments.{Segments, holds}
-use Rattle.endpoint_state.specs.Settings.{Settings}
-use Rattle.endpoint_state.specs.State.{live_in}
+use Rattle.endpoint_core.specs.Settings.{Settings}
+use Rattle.endpoint_core.specs.State.{live_in}
 use Rattle.endpoint_core.specs.Event.{Event}
 use Rattle.endpoint_core.specs.Step.{State, has_two_tunnels, opened, state_after}
 use Rattle.table_lines.specs.Lines.{entry_line, segment_lines, shown_at, tables_text, vids}

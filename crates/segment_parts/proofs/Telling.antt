@@ -1,15 +1,15 @@
 -- A part of a run, event by event, beside the whole run.
 use Rattle.std.proofs.Common.{◌≡◌, ℕ, Bool, true, false, cond, List, [], ◌∷◌, Option, Some, Result, refl, sym, ap, ◌∙◌}
 use Rattle.std.proofs.Math.Path.{fun_ext}
-use Rattle.frame_view.specs.declared.reason.Refused.{Refused}
-use Rattle.endpoint_state.specs.Settings.{Settings}
-use Rattle.endpoint_state.specs.State.{State as Bridges, aged}
-use Rattle.endpoint_core.specs.Came.{Came}
+use Rattle.wire.specs.declared.ether.reason.Refused.{Refused}
+use Rattle.endpoint_core.specs.Settings.{Settings}
+use Rattle.endpoint_core.specs.State.{State as Bridges, aged}
+use Rattle.endpoint_core.specs.Arrival.{Arrival}
 use Rattle.endpoint_core.specs.Arrival.{came_at, came_by}
 use Rattle.endpoint_core.specs.Counts.{Counts, counted}
 use Rattle.endpoint_core.specs.Event.{Input, FrameAt, Packet, Asks, Event}
 use Rattle.endpoint_core.specs.Step.{State, Answer, Decided, Replied, opened, decided, after_came, answer_by, counts_after, answer, after, state_after}
-use Rattle.segment_isolation.proofs.Stepping.{decided-segment}
+use Rattle.noninterference.proofs.Stepping.{decided-segment}
 use Rattle.noninterference.specs.Leaving.{told_in}
 use Rattle.segment_set.specs.Segments.{Segments, holds}
 use Rattle.endpoint_core.specs.Among.{segment_of, segment_in, is_told, after_untold_input, after_among}
@@ -71,11 +71,11 @@ module _ (p : Option ℕ → Bool) where
   }
 
   -- a frame or a packet that is passed over
-  passed-kept : (s r : State) (t : ℕ) (x : Result Came Refused) → Keeps p s r → p (segment_of x) ≡ false → Alike p (aged t (after_came t (aged t s.bridges) x)) (aged t r.bridges)
+  passed-kept : (s r : State) (t : ℕ) (x : Result Arrival Refused) → Keeps p s r → p (segment_of x) ≡ false → Alike p (aged t (after_came t (aged t s.bridges) x)) (aged t r.bridges)
   passed-kept s r t x h other =
       aged_twice p t (after_came t (aged t s.bridges) x) r.bridges (came-passed p t (aged t s.bridges) (aged t r.bridges) (aged-alike p t s.bridges r.bridges h.bridges) x other)
 
-  uncounted : (s r : State) (t : ℕ) (x : Result Came Refused) → Keeps p s r → p (segment_of x) ≡ false → CountsIn p (counted s.counts (decided t (aged t s.bridges) x)) r.counts
+  uncounted : (s r : State) (t : ℕ) (x : Result Arrival Refused) → Keeps p s r → p (segment_of x) ≡ false → CountsIn p (counted s.counts (decided t (aged t s.bridges) x)) r.counts
   uncounted s r t x h other = counted-untold p s.counts r.counts (decided t (aged t s.bridges) x) h.counts (ap p (decided-segment t (aged t s.bridges) x) ∙ other)
 
   -- an event that isn't told

@@ -6,50 +6,50 @@ use Rattle.std.specs.Option.{option_map_or}
 use Rattle.std.specs.Ordering.{nat_cmp}
 use Rattle.std.specs.FinMap.{FinMap, empty, get, insert, remove}
 use Rattle.std.proofs.lemmas.Bool.{eqb-true, false≢true}
-use Rattle.frame_view.specs.First.{first, unless}
-use Rattle.frame_view.specs.Refusal.{as_refused}
-use Rattle.frame_view.specs.Frame.{Frame}
-use Rattle.frame_view.specs.Tag.{IsVid}
-use Rattle.frame_view.specs.declared.reason.Reason.{Reason}
-use Rattle.frame_view.specs.declared.reason.Reason.TheVariants.{BadVid, FrameType, NoSegment, NotMember}
-use Rattle.frame_view.specs.declared.reason.Refused.{Refused}
-use Rattle.ip_udp_view.specs.declared.addr.Addr.{Addr}
-use Rattle.ip_udp_view.specs.declared.addr.Tunnel.{Tunnel}
-use Rattle.vlan_ports.specs.Ports as ports
-use Rattle.vlan_ports.specs.Ports.{Ports, port_at, egress_at}
-use Rattle.vlan_ports.specs.Ingress.{nowhere, within, text_reasons, tag_vid, accepts, reasons, vid_at, frame_in, enters}
-use Rattle.vlan_ports.proofs.PlacesLemmas.{get-insert_at, get-remove_at}
-use Rattle.underlay.specs.Overlay as overlay
-use Rattle.underlay.specs.Overlay.{Overlay, flooding, segment_by}
-use Rattle.underlay.specs.declared.segment.Segment.{Segment}
-use Rattle.flood_lists.specs.Flood.{Entries}
+use Rattle.wire.specs.First.{first, unless}
+use Rattle.wire.specs.Refusal.{as_refused}
+use Rattle.wire.specs.Frame.{Frame}
+use Rattle.wire.specs.Tag.{IsVid}
+use Rattle.wire.specs.declared.ether.reason.Reason.{Reason}
+use Rattle.wire.specs.declared.ether.reason.Reason.TheVariants.{BadVid, FrameType, NoSegment, NotMember}
+use Rattle.wire.specs.declared.ether.reason.Refused.{Refused}
+use Rattle.wire.specs.declared.ip_udp.addr.Addr.{Addr}
+use Rattle.wire.specs.declared.ip_udp.addr.Tunnel.{Tunnel}
+use Rattle.overlay.specs.Ports as ports
+use Rattle.overlay.specs.Ports.{Ports, port_at, egress_at}
+use Rattle.overlay.specs.Ingress.{nowhere, within, text_reasons, tag_vid, accepts, reasons, vid_at, frame_in, enters}
+use Rattle.overlay.proofs.PlacesLemmas.{get-insert_at, get-remove_at}
+use Rattle.overlay.specs.Overlay as overlay
+use Rattle.overlay.specs.Overlay.{Overlay, flooding, segment_by}
+use Rattle.overlay.specs.declared.underlay.segment.Segment.{Segment}
+use Rattle.overlay.specs.Flood.{Entries}
 use Rattle.decapsulate.specs.declared.arrived.Arrived.{Arrived}
 use Rattle.decapsulate.specs.Arrival as arrival
 use Rattle.decapsulate.specs.Arrival.{arrival_in, arrival_by, arrival_of, outer_reasons, inner_reasons, packet_in, kind_to, vni_of, inner_of}
-use Rattle.ip_udp_view.specs.Udp.{data_of}
+use Rattle.wire.specs.Udp.{data_of}
 use Rattle.timeline.specs.declared.event.Event.{Event as Happens}
 use Rattle.timeline.specs.declared.event.Happening.{Happening}
 use Rattle.timeline.specs.declared.event.Happening.TheVariants as happenings
 use Rattle.timeline.specs.declared.source.Tap.TheVariants as taps
-use Rattle.overlay_settings.specs.Rules.{MeetsRules}
-use Rattle.overlay_settings.specs.Settings.{Settings as Rules}
-use Rattle.overlay_settings.specs.declared.change.Change.{Change}
-use Rattle.overlay_settings.specs.declared.change.Change.TheVariants.{AddFlood, RemoveFlood, SetMember, AddSegment}
-use Rattle.endpoint_state.specs.Settings.{Settings, SegmentSettings, segment_at}
-use Rattle.endpoint_state.specs.Effect.{Effect, ToFlood, ToBridge, ToLimit, ToMembers, ToPort, Comes, Goes, ToNothing, effect, applied}
-use Rattle.endpoint_state.specs.Change.{refused, accepted, changed}
-use Rattle.endpoint_state.specs.Opened.{settings_told}
-use Rattle.endpoint_state.proofs.OpenLemmas.{sound-opened}
-use Rattle.endpoint_core.specs.Came.{Came}
+use Rattle.overlay.specs.Rules.{MeetsRules}
+use Rattle.overlay.specs.Settings.{Settings as Rules}
+use Rattle.overlay.specs.declared.settings.change.Change.{Change}
+use Rattle.overlay.specs.declared.settings.change.Change.TheVariants.{AddFlood, RemoveFlood, SetMember, AddSegment}
+use Rattle.endpoint_core.specs.Settings.{Settings, SegmentSettings, segment_at}
+use Rattle.endpoint_core.specs.Effect.{Effect, ToFlood, ToBridge, ToLimit, ToMembers, ToPort, Comes, Goes, ToNothing, effect, applied}
+use Rattle.endpoint_core.specs.Change.{refused, accepted, changed}
+use Rattle.endpoint_core.specs.Opened.{settings_told}
+use Rattle.endpoint_core.proofs.OpenLemmas.{sound-opened}
+use Rattle.endpoint_core.specs.Arrival.{Arrival}
 use Rattle.endpoint_core.specs.Arrival.{capture_reasons, entered, let_in, came_at, came_by}
 use Rattle.endpoint_core.proofs.LetIn.{let_in-segment}
 use Rattle.endpoint_core.specs.Event.{Input, FrameAt, Packet, Asks, Event}
 use Rattle.endpoint_core.specs.Run.{settings_after_input, settings_after, bridges_at, decisions}
 use Rattle.capture_run.specs.Outputs.{no_change, input_of, event_of}
-use Rattle.segment_isolation.proofs.Coming.{by-entered, by-tunnelled}
-use Rattle.segment_isolation.proofs.Entering.{segment_entered}
-use Rattle.segment_isolation.proofs.Arriving.{segment_arrived}
-use Rattle.segment_isolation.proofs.Finding.{found_at}
+use Rattle.noninterference.proofs.Coming.{by-entered, by-tunnelled}
+use Rattle.noninterference.proofs.Entering.{segment_entered}
+use Rattle.noninterference.proofs.Arriving.{segment_arrived}
+use Rattle.noninterference.proofs.Finding.{found_at}
 use Rattle.endpoint_core.specs.Among.{segment_of, segment_in}
 use Rattle.segment_parts.specs.Pieces.{Told, told_from, IsAsked, HasVids, NamesVid}
 use Rattle.segment_parts.proofs.Telling.{told_in-is}
@@ -93,7 +93,7 @@ enters-asked P port b vids = by (ports.has_segment P (vid_at P port b)) refl
         subst (λ (c : Bool). IsAsked (segment_entered (unless (first (early ++ (nowhere NoSegment, not c) ∷ late)) (Ok (k, frame_in b))))) (sym is)
         (entered-none early late (k, frame_in b) (tt, (tt, (tt, (tt, (tt, (tt, (tt, tt))))))))
 
-came-rows : (rows : List (Refused × Bool)) (r : Result Came Refused) → AllByRecursion (λ (row : Refused × Bool). IsAsked row.0.segment) rows → IsAsked (segment_of r) → IsAsked (segment_of (unless (first rows) r))
+came-rows : (rows : List (Refused × Bool)) (r : Result Arrival Refused) → AllByRecursion (λ (row : Refused × Bool). IsAsked row.0.segment) rows → IsAsked (segment_of r) → IsAsked (segment_of (unless (first rows) r))
 came-rows [] r all own = own
 came-rows (row ∷ rows) r all own = by row.1 (came-rows rows r all.1 own)
   where

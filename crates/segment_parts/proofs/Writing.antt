@@ -5,14 +5,14 @@ use Rattle.std.proofs.lemmas.Bool.{eqb-true, ne_eqb, eq-eqb}
 use Rattle.std.proofs.lemmas.List.{append_assoc, map-append}
 use Rattle.filter_db.specs.declared.place.Place.{Place}
 use Rattle.filter_db.specs.declared.place.Place.TheVariants.{Local, Remote}
-use Rattle.pcap_io.specs.Written.{written_header, written_record}
+use Rattle.pcap.specs.Written.{written_header, written_record}
 use Rattle.timeline.specs.Timeline.{Timeline}
 use Rattle.timeline.specs.declared.event.Event.{Event as Happens}
 use Rattle.timeline.specs.declared.source.Tap.{Tap}
 use Rattle.timeline.specs.declared.source.Tap.TheVariants as taps
 use Rattle.decision_lines.specs.Lines.{cut_line}
-use Rattle.overlay_settings.specs.declared.change.Change.{Change}
-use Rattle.endpoint_state.specs.Settings.{Settings}
+use Rattle.overlay.specs.declared.settings.change.Change.{Change}
+use Rattle.endpoint_core.specs.Settings.{Settings}
 use Rattle.endpoint_core.specs.Event.{Event}
 use Rattle.endpoint_core.specs.Step.{Answer}
 use Rattle.endpoint_core.specs.Run.{decisions}

@@ -6,19 +6,19 @@
 --     state_among, counted_among      the state of a part after events, and what it counted
 use Rattle.std.specs.Prelude.{◌≡◌, ℕ, ◌+◌, true, if◌then◌else◌, List, [], ◌∷◌, map, filter, count_by, Option, Some, None}
 use Rattle.std.specs.List.{zip}
-use Rattle.frame_view.specs.Tag.{IsVid}
+use Rattle.wire.specs.Tag.{IsVid}
 use Rattle.filter_db.specs.declared.place.Place.{Place}
 use Rattle.filter_db.specs.declared.place.Place.TheVariants.{Local, Remote}
-use Rattle.vlan_ports.specs.Ports as ports
-use Rattle.underlay.specs.Overlay as overlay
-use Rattle.pcap_io.specs.Written.{written_record}
+use Rattle.overlay.specs.Ports as ports
+use Rattle.overlay.specs.Overlay as overlay
+use Rattle.pcap.specs.Written.{written_record}
 use Rattle.timeline.specs.Timeline.{Timeline}
 use Rattle.timeline.specs.declared.event.Event.{Event as Happens}
 use Rattle.timeline.specs.declared.source.Tap.{Tap}
 use Rattle.timeline.specs.declared.source.Tap.TheVariants as taps
-use Rattle.overlay_settings.specs.Change.{named}
-use Rattle.overlay_settings.specs.declared.change.Change.{Change}
-use Rattle.endpoint_state.specs.Settings.{Settings}
+use Rattle.overlay.specs.Change.{named}
+use Rattle.overlay.specs.declared.settings.change.Change.{Change}
+use Rattle.endpoint_core.specs.Settings.{Settings}
 use Rattle.endpoint_core.specs.Counts.{Counts}
 use Rattle.endpoint_core.specs.Event.{Event}
 use Rattle.endpoint_core.specs.Step.{State, Answer}

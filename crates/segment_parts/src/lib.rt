@@ -11,6 +11,11 @@
 //! those of the whole run, and the texts of these are its outputs, octet for octet. Behind a part the settings are the whole
 //! run's, and so are the tables of its segments, their lines and their counts; the counts of all parts add up.
 //!
+//! Proved besides:
+//! - The same holds of a run over captures without a fault, with changes that name VIDs of 1 to 4094: `laws::runs`.
+//!   Those of every text of changes do, so of a run by texts nothing more is asked than that its parts have each
+//!   segment once: `laws::texts`.
+//!
 //! Why it is so: a change of a text names a segment by a VID of 1 to 4094, or none, so of parts of a run by texts nothing more
 //! is asked than that they have each segment once.
 #![tactic(auto)]

@@ -1,6 +1,6 @@
 //! One item of a list of segments.
 ghost use Rattle.std.specs.Prelude.{◌≡◌, ◌≤◌, ◌<◌, option_map, IfOk, IfSome, length};
-ghost use Rattle.frame_view.specs.Tag.{IsVid};
+ghost use Rattle.wire.specs.Tag.{IsVid};
 ghost use Rattle.segment_set.specs.Lists.{AreVids, cut, item_in, one_vid, vid_in, vid_range};
 
 use crate::fault::ListFault;

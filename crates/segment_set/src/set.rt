@@ -6,8 +6,8 @@ ghost use Rattle.segment_set.specs.Lists.{AreVids, Leaves, item_in, meaning, not
 
 use crate::fault::ListFault;
 use crate::item::{Item, cut, item_in};
-use frame_view::Vid;
 use std::marker::Model;
+use wire::ether::Vid;
 
 /// How many VIDs 12 bits have.
 const VIDS: usize = 4096;

@@ -1,8 +1,8 @@
 -- The bucket of an address in a segment, and its tree: each bucket has sixty-four. It states no standard.
 use Rattle.std.specs.Prelude.{ℕ, ◌+◌, ◌*◌, ◌/◌, ◌%◌, ◌^◌, ◌<◌, List, ◌++◌, take, drop}
 use Rattle.std.specs.Int.{from_be_bytes, to_be_bytes, w16, w64}
-use Rattle.header_octets.specs.Octets.{octets}
-use Rattle.header_octets.specs.Sum.{total}
+use Rattle.wire.specs.Octets.{octets}
+use Rattle.wire.specs.Sum.{total}
 
 -- the sum of the address's three words and the VID, in one of 4,096 classes
 abbrev pub bucket_of : ℕ → List ℕ → ℕ

@@ -8,7 +8,7 @@ use Rattle.std.specs.Option.{option_map}
 use Rattle.filter_db.specs.declared.entry.Entry.{Entry}
 use Rattle.filter_db.specs.Table.{is_live, mac_cmp}
 use Rattle.filter_db.specs.Rows.{Rows, AreUnique}
-use Rattle.header_octets.specs.Octets.{IsText}
+use Rattle.wire.specs.Octets.{IsText}
 use Rattle.shared_tables.specs.Line.{IsApart, is_on}
 use Rattle.shared_tables.specs.Pool.{Held, entry_at}
 use Rattle.shared_tables.specs.Shared.{line_key}

@@ -19,7 +19,7 @@ use crate::share::{self, Share};
 use crate::slots::Slots;
 use crate::trees::Trees;
 use filter_db::Place;
-use frame_view::{Mac, Vid};
+use wire::ether::{Mac, Vid};
 
 /// What came of an address.
 #[derive(Clone, Copy)]

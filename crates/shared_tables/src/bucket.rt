@@ -6,7 +6,7 @@
 ghost use Rattle.std.specs.Prelude.{◌≡◌, ◌<◌, [], ◌∷◌};
 ghost use Rattle.shared_tables.specs.Bucket.{bucket_of, tree_of, key_of, IsKey, vid_in, mac_in, spread};
 
-use frame_view::{Mac, Vid};
+use wire::ether::{Mac, Vid};
 
 /// How many there are.
 const BUCKETS: usize = 4096;

@@ -17,7 +17,7 @@ use crate::admission::Outcome;
 use crate::bucket::tree_of;
 use crate::{SharedTables, learning};
 use filter_db::{Learned, NotThere, Place, TableFull, Tables};
-use frame_view::{Mac, Vid};
+use wire::ether::{Mac, Vid};
 
 impl Tables for SharedTables {
     ghost use Rattle.shared_tables.specs.Segments.{segments_of};

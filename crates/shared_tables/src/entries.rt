@@ -17,7 +17,7 @@ use crate::slots::Slots;
 use crate::threads;
 use crate::trees::Trees;
 use filter_db::Place;
-use frame_view::Vid;
+use wire::ether::Vid;
 
 /// Gives an entry of a segment another place and another last moment. It goes to the end of its line: of the list of
 /// the fixed entries where it is fixed now, of the age queue otherwise.

@@ -16,7 +16,7 @@ use crate::SharedTables;
 use crate::admission::Outcome;
 use crate::links::SlotId;
 use filter_db::{Learned, Place};
-use frame_view::{Mac, Vid};
+use wire::ether::{Mac, Vid};
 
 /// Lets the dead entries of a segment go, from the front of its age queue.
 pub fn sweep(tables: &mut SharedTables, vid: Vid)

@@ -16,6 +16,24 @@
 //! is compared. A call asks for the age of at most one entry more than go for being dead, and what was asked, with the
 //! entries that are kept, is at most two for each call (`laws::pays_for_all_work`).
 //!
+//! Proved of the tables of all segments, in one pool of slots:
+//! - Segments come, go and get other limits as `PoolTables` says: an added one is empty, whatever one of its VID kept
+//!   before; the room is the pool less the limits of the segments that stand: `impl PoolTables`.
+//! - Each slot is free or holds one entry: a leaf of one of the sixty-four trees of its address's bucket, and on one
+//!   line of its segment, which stands. It's the type's invariant.
+//! - Look-ups, learning and fixing compare an address, or send it on by a fork, at most as often as entries are kept in
+//!   its bucket, and at most 61 times, whatever stands in the pool: a key has 60 bits, 12 of the VID and 48 of the
+//!   address, each sends it on at most once, and then one slot is compared. No other call compares one: `impl Tables`.
+//!   These are the counts of which `Tables` speaks, so what stands above says by them what it costs at most.
+//! - A call asks for the age of at most one entry more than go for being dead; `add` and `remove` ask for none: `impl
+//!   Tables`, `impl PoolTables`.
+//! - What was asked, with the entries that are kept, is at most two for each call, those of the pool too:
+//!   `laws::pays_for_all_work`. No count ever falls.
+//! - The live entries of a segment are listed each once, addresses rising: `entries`. The live entry of an address, and
+//!   how many a segment has, are what that list holds, and are told without memory: `entry`, `entry_count`.
+//! - A listing, `entry` and `entry_count` look at entries of their segment, change nothing, and are no calls of a
+//!   bridge.
+//!
 //! Why it is so: the limits of the segments that stand never sum to more than the pool has slots. So a segment below its
 //! limit always finds a free slot, and no call can be refused for room of the pool but the one that adds a segment or raises
 //! a limit.

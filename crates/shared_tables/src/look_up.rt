@@ -10,7 +10,7 @@ use crate::bucket;
 use crate::links::SlotId;
 use crate::slots::Slots;
 use crate::trees::{Target, Trees, bit_in, fork_in, is_fork, read};
-use frame_view::{Mac, Vid};
+use wire::ether::{Mac, Vid};
 use work_count::Count;
 
 /// A leaf beside which an address belongs, and a bit in which its key and that leaf's differ.

@@ -12,7 +12,7 @@ ghost use Rattle.shared_tables.specs.Work.{VisitsFew, Pays};
 
 use crate::{SharedTables, learning};
 use filter_db::{PoolTables, TableRule};
-use frame_view::Vid;
+use wire::ether::Vid;
 
 impl PoolTables for SharedTables {
     fn room(&self) -> u32 {

@@ -11,7 +11,7 @@ use crate::links::SlotId;
 use crate::slots::Slots;
 use crate::threads::{self, Ends, NO_ENDS};
 use filter_db::TableRule;
-use frame_view::Vid;
+use wire::ether::Vid;
 
 /// As many as there are values of 12 bits.
 pub const VIDS: usize = 4096;

@@ -24,9 +24,9 @@ use crate::share::{self, Share};
 use crate::slots::Slots;
 use crate::trees::Trees;
 use filter_db::{Place, TableRule};
-use frame_view::{Mac, Vid};
 use std::alloc::{AllocError, Global};
 use std::marker::Model;
+use wire::ether::{Mac, Vid};
 use work_count::Count;
 
 mod known;

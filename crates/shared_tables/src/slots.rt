@@ -24,9 +24,9 @@ ghost use Rattle.shared_tables.specs.TreesOfSlots.{PartedAt, key_in};
 use crate::bucket::{key, tree_by_key};
 use crate::links::{ALONE, Link, Links, SlotId};
 use filter_db::Place;
-use frame_view::{Mac, Vid};
 use std::alloc::{AllocError, Global};
 use std::marker::Model;
+use wire::ether::{Mac, Vid};
 use work_count::Count;
 
 mod changing;

@@ -10,7 +10,7 @@ ghost use Rattle.shared_tables.specs.SlotsOfSegments.{share_limit};
 ghost use Rattle.shared_tables.specs.Standing.{one_there};
 
 use crate::share::Share;
-use frame_view::Vid;
+use wire::ether::Vid;
 
 /// The limit of a segment; 0 where there is none.
 fn limit_of(share: &Option<Share>) -> u32

@@ -2,7 +2,7 @@
 //!
 //! Use first: [`split`] reads a capture once, writes the files into a folder, and prints a list of them.
 //!
-//! Proved: each function is safe and ends. What each step of the pass tells of each interface is `capture_split`'s; that it
+//! Proved: each function is safe and ends. What each step of the pass tells of each interface is said by [`capture_split`]; that it
 //! comes into the interface's file is tested. What a file holds isn't proved.
 //!
 //! Why it is so: a file is opened where its interface is described first, so one that no packet came through has a capture
@@ -11,6 +11,7 @@
 //! process may have open everywhere.
 #![tactic(auto)]
 
+pub mod capture_split;
 mod listing;
 mod naming;
 mod pass;

@@ -1,7 +1,7 @@
 //! What is printed of the files that a capture was split into.
+use crate::capture_split::Lanes;
 use crate::pass::number_at;
 use crate::split_file::SplitFile;
-use capture_split::Lanes;
 use program_faults::OneLine;
 use std::alloc::{AllocError, Global};
 use std::fmt::Write;

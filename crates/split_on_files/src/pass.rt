@@ -1,10 +1,10 @@
 //! The pass over a capture.
 ghost use Rattle.std.specs.Prelude.{◌≡◌, ◌≤◌};
-ghost use Rattle.capture_split.specs.Pass.{IsPlaced};
+ghost use Rattle.split_on_files.specs.Pass.{IsPlaced};
 
+use crate::capture_split::{Lanes, Step, Taken, take_next};
 use crate::split_file::{SplitFile, open_split_file};
-use capture_split::{Lanes, Step, Taken, take_next};
-use pcap_stream::Input;
+use pcap::stream::Input;
 use pcapng_input::{Gathered, PcapngFault, Stop};
 use program_faults::{Failure, SplitFailure};
 use std::alloc::AllocError;

@@ -1,7 +1,7 @@
 //! A file that a capture is split into.
 use crate::naming::file_name;
-use pcap_io::global_header;
-use pcap_stream::{BlockOutput, Output, StdOutput};
+use pcap::stream::{BlockOutput, Output, StdOutput};
+use pcap::text::global_header;
 use program_faults::{Failure, SystemFault, UnwrittenFile};
 use program_files::{OutputDevice, is_same};
 use std::alloc::{AllocError, Global};

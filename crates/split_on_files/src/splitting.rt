@@ -1,8 +1,8 @@
 //! A capture split into files.
+use crate::capture_split::Lanes;
 use crate::listing::listing;
 use crate::pass::{Ending, Place, number_at, pass_over};
 use crate::split_file::SplitFile;
-use capture_split::Lanes;
 use command_line::capture_name;
 use pcapng_input::Gathered;
 use program_faults::{Failure, SplitFailure};

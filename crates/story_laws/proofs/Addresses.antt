@@ -6,14 +6,14 @@ use Rattle.std.specs.List.{AllByRecursion}
 use Rattle.std.proofs.lemmas.Bool.{ltb-true, ltb-false}
 use Rattle.std.proofs.lemmas.Fmt.{decimal_injective}
 use Rattle.std.proofs.lemmas.List.{ext_get_or}
-use Rattle.header_octets.specs.Octets.{IsText, octet}
-use Rattle.ip_udp_view.specs.Addr.{IsAddr}
-use Rattle.ip_udp_view.specs.declared.addr.Addr.{Addr}
-use Rattle.ip_udp_view.specs.declared.addr.Addr.TheVariants.{V4, V6}
+use Rattle.wire.specs.Octets.{IsText, octet}
+use Rattle.wire.specs.Addr.{IsAddr}
+use Rattle.wire.specs.declared.ip_udp.addr.Addr.{Addr}
+use Rattle.wire.specs.declared.ip_udp.addr.Addr.TheVariants.{V4, V6}
 use Rattle.endpoint_core.specs.Text.{addr_text, grouped, hex_digit, hex_octet, ip4_text, ip6_text}
 use Rattle.line_words.proofs.Decimals.{IsNoDigit, lacks_more, lacks_one}
 use Rattle.part_lines.proofs.Addresses.{byte_lacks, ip4_lacks, octet_lacks, space_apart}
-use Rattle.story_words.specs.Words.{behind_colons, mac_text}
+use Rattle.change_story.specs.Words.{behind_colons, mac_text}
 use Rattle.story_laws.proofs.Words.{Lacks, spaced, same-words, lacks-none}
 
 -- ---- hexadecimal digits

@@ -9,14 +9,14 @@ use Rattle.std.proofs.lemmas.Bool.{eq-eqb, ltb-false, ltb-true}
 use Rattle.std.proofs.lemmas.Grind.{flat_map-append}
 use Rattle.std.proofs.lemmas.List.{map-append}
 use Rattle.std.proofs.lemmas.List.Elements.{filter-append}
-use Rattle.ip_udp_view.specs.declared.addr.Addr.{Addr}
-use Rattle.ip_udp_view.specs.declared.addr.Tunnel.{Tunnel}
-use Rattle.ip_udp_view.specs.declared.addr.Tunnel.TheVariants.{Vxlan, Geneve}
-use Rattle.ip_udp_view.specs.Addr.{same_addr, same_kind}
+use Rattle.wire.specs.declared.ip_udp.addr.Addr.{Addr}
+use Rattle.wire.specs.declared.ip_udp.addr.Tunnel.{Tunnel}
+use Rattle.wire.specs.declared.ip_udp.addr.Tunnel.TheVariants.{Vxlan, Geneve}
+use Rattle.wire.specs.Addr.{same_addr, same_kind}
 use Rattle.filter_db.specs.declared.place.Place.{Place}
 use Rattle.filter_db.specs.declared.place.Place.TheVariants.{Local, Remote}
 use Rattle.filter_db.specs.Place.{same_place}
-use Rattle.vlan_ports.specs.declared.member.Egress.{Egress}
+use Rattle.overlay.specs.declared.ports.member.Egress.{Egress}
 use Rattle.tunnel_learning.specs.Bridge.{Config, Target, group_of, in_one_group, is_local_outlet, is_remote_outlet, is_up_at, local_places, place_of, remote_places}
 use Rattle.event_story.specs.Bridge.{left_among, left_facts, left_out, left_ports, places_of, ports_told}
 use Rattle.event_story.specs.Neighbours.{folded}

@@ -1,21 +1,21 @@
 -- What is told of a frame at a local port refuses where the frame is refused.
 use Rattle.std.proofs.Common.{◌≡◌, ◌∙◌, refl, sym, ap, subst, ℕ, Bool, true, false, cond, not, ◌&&◌, nat_lt, is_none, List, [], ◌∷◌, ◌++◌, length, take, drop, Option, Some, None, Result, Ok, Err}
-use Rattle.header_octets.specs.Octets.{field, part}
-use Rattle.frame_view.specs.First.{first, unless}
-use Rattle.frame_view.specs.Frame.{Frame}
-use Rattle.frame_view.specs.Refusal.{within}
-use Rattle.frame_view.specs.Ether.{has_tag, tag_split, CutShort, WithTag, Untagged}
-use Rattle.frame_view.specs.Tag.{begins_tag}
-use Rattle.frame_view.specs.declared.reason.Reason.{Reason}
-use Rattle.frame_view.specs.declared.reason.Reason.TheVariants.{NotMember, InnerTag}
-use Rattle.frame_view.specs.declared.reason.Refused.{Refused}
+use Rattle.wire.specs.Octets.{field, part}
+use Rattle.wire.specs.First.{first, unless}
+use Rattle.wire.specs.Frame.{Frame}
+use Rattle.wire.specs.Refusal.{within}
+use Rattle.wire.specs.Ether.{has_tag, tag_split, CutShort, WithTag, Untagged}
+use Rattle.wire.specs.Tag.{begins_tag}
+use Rattle.wire.specs.declared.ether.reason.Reason.{Reason}
+use Rattle.wire.specs.declared.ether.reason.Reason.TheVariants.{NotMember, InnerTag}
+use Rattle.wire.specs.declared.ether.reason.Refused.{Refused}
 use Rattle.filter_db.specs.declared.place.Place.TheVariants.{Local}
-use Rattle.vlan_ports.specs.Ingress.{reasons, vid_reasons, tag_vid, frame_in, destination, source, vid_at}
-use Rattle.vlan_ports.specs.Ports.{Ports, egress_at}
-use Rattle.frame_view.specs.Address.{is_group, is_reserved}
-use Rattle.underlay.specs.Overlay.{Overlay, refuses_tags_at}
+use Rattle.overlay.specs.Ingress.{reasons, vid_reasons, tag_vid, frame_in, destination, source, vid_at}
+use Rattle.overlay.specs.Ports.{Ports, egress_at}
+use Rattle.wire.specs.Address.{is_group, is_reserved}
+use Rattle.overlay.specs.Overlay.{Overlay, refuses_tags_at}
 use Rattle.endpoint_core.specs.Arrival.{came_at, capture_reasons, entered, let_in}
-use Rattle.endpoint_core.specs.Came.{Came}
+use Rattle.endpoint_core.specs.Arrival.{Arrival}
 use Rattle.endpoint_core.specs.Among.{segment_of}
 use Rattle.event_story.specs.Ether.{header_fact, if_whole, tag_told}
 use Rattle.event_story.specs.Local.{local_fact, local_facts, local_facts_of, local_tests, segment_fact}
@@ -27,7 +27,7 @@ use Rattle.story_laws.proofs.Refusals.{tells, Good, Rows, pass, stop, rows-good,
 -- ---- one table
 
 -- the frame in its segment, if it is let in
-abbrev entrant : Ports → ℕ → List ℕ → Came
+abbrev entrant : Ports → ℕ → List ℕ → Arrival
 entrant s port b = record { vid = vid_at s port b; from = Local port; frame = frame_in b }
 
 in-entered : (overlay : Overlay) (port : ℕ) (o : Option Refused) (found : ℕ × Frame) → let_in overlay (entered port (unless o (Ok found))) ≡ unless o (let_in overlay (entered port (Ok found)))
@@ -44,7 +44,7 @@ came-table s overlay port original b =
 -- ---- each test
 
 -- the fact of a test
-abbrev saw : Ports → ℕ → ℕ → List ℕ → Result Came Refused → Reason → Option Fact
+abbrev saw : Ports → ℕ → ℕ → List ℕ → Result Arrival Refused → Reason → Option Fact
 saw s port original b came t = local_fact s port original b came t
 
 -- the header is told as too short where it is
@@ -62,20 +62,20 @@ cut-told true false tci behind body = refl
 cut-told false short tci behind body = refl
 
 -- from the last tests of a table on the segment is known
-let-in-known : (s : Ports) (overlay : Overlay) (port : ℕ) (b : List ℕ) (x : Came) → is_refusal (segment_fact s port b (segment_of (let_in overlay (Ok x)))) ≡ false
+let-in-known : (s : Ports) (overlay : Overlay) (port : ℕ) (b : List ℕ) (x : Arrival) → is_refusal (segment_fact s port b (segment_of (let_in overlay (Ok x)))) ≡ false
 let-in-known s overlay port b x = by (begins_tag x.frame.body && refuses_tags_at overlay x.vid)
   where
     by : (q : Bool) → is_refusal (segment_fact s port b (segment_of (cond q (Err (within x.vid InnerTag)) (Ok x)))) ≡ false
     by true = refl
     by false = refl
 
-known : (s : Ports) (overlay : Overlay) (port : ℕ) (b : List ℕ) (x : Came) (vid : ℕ) (q : Bool)
+known : (s : Ports) (overlay : Overlay) (port : ℕ) (b : List ℕ) (x : Arrival) (vid : ℕ) (q : Bool)
     → is_refusal (segment_fact s port b (segment_of (unless (first ((within vid NotMember, q) ∷ [])) (let_in overlay (Ok x))))) ≡ false
 known s overlay port b x vid true = refl
 known s overlay port b x vid false = let-in-known s overlay port b x
 
 -- a member's port is told as one
-member-told : (s : Ports) (overlay : Overlay) (port original : ℕ) (b : List ℕ) (x : Came) → is_none (egress_at s x.vid port) ≡ false
+member-told : (s : Ports) (overlay : Overlay) (port original : ℕ) (b : List ℕ) (x : Arrival) → is_none (egress_at s x.vid port) ≡ false
     → tells is_refusal (saw s port original b (let_in overlay (Ok x)) NotMember) ≡ false
 member-told s overlay port original b x is = by (begins_tag x.frame.body && refuses_tags_at overlay x.vid)
   where
@@ -84,7 +84,7 @@ member-told s overlay port original b x is = by (begins_tag x.frame.body && refu
     by false = is
 
 -- the last test
-let-in-good : (s : Ports) (overlay : Overlay) (port original : ℕ) (b : List ℕ) (x : Came) → Good is_refusal (saw s port original b) (let_in overlay (Ok x)) (InnerTag ∷ [])
+let-in-good : (s : Ports) (overlay : Overlay) (port original : ℕ) (b : List ℕ) (x : Arrival) → Good is_refusal (saw s port original b) (let_in overlay (Ok x)) (InnerTag ∷ [])
 let-in-good s overlay port original b x = by (begins_tag x.frame.body && refuses_tags_at overlay x.vid)
   where
     by : (q : Bool) → Good is_refusal (saw s port original b) (cond q (Err (within x.vid InnerTag)) (Ok x)) (InnerTag ∷ [])
@@ -158,10 +158,10 @@ frame-rows s overlay port original b =
 
 pub frame-refusals : (s : Ports) (overlay : Overlay) (port original : ℕ) (b : List ℕ) → RefusesAs is_refusal (came_at s overlay port original b) (local_facts s overlay port original b)
 frame-refusals s overlay port original b =
-    subst (λ (came : Result Came Refused). RefusesAs is_refusal came (local_facts_of s port original b came)) (sym (came-table s overlay port original b))
+    subst (λ (came : Result Arrival Refused). RefusesAs is_refusal came (local_facts_of s port original b came)) (sym (came-table s overlay port original b))
     (told-as is_refusal (saw s port original b table) table local_tests good.agree)
   where
-    table : Result Came Refused
+    table : Result Arrival Refused
     table = unless (first (capture_reasons original b ++ reasons s port b)) (let_in overlay (Ok (entrant s port b)))
 
     good : Good is_refusal (saw s port original b) table local_tests

@@ -4,29 +4,29 @@ use Rattle.std.specs.List.{AllByRecursion}
 use Rattle.std.specs.Cmp.{nat_cmp_total}
 use Rattle.std.specs.FinMap.{entries, entries_sorted, get-entries}
 use Rattle.std.proofs.lemmas.Bool.{false≢true, and_parts}
-use Rattle.header_octets.specs.Octets.{part}
-use Rattle.frame_view.specs.Address.{is_group as is_group_mac, is_reserved}
-use Rattle.frame_view.specs.First.{first, unless}
-use Rattle.frame_view.specs.Frame.{frame_of}
-use Rattle.frame_view.specs.Refusal.{as_refused}
-use Rattle.frame_view.specs.declared.reason.Reason.{Reason}
-use Rattle.frame_view.specs.declared.reason.Reason.TheVariants.{ShortTunnel, NoVniFlag, BadVersion, Control, NotEthernet, BadOptions, CriticalOption}
-use Rattle.frame_view.specs.declared.reason.Reason.TheVariants.{UnknownVni, WrongGroup, UnknownPeer, InnerRunt, BadSource, Reserved, InnerTag}
-use Rattle.frame_view.specs.declared.reason.Refused.{Refused}
-use Rattle.frame_view.proofs.FirstLemmas.{NothingHolds}
+use Rattle.wire.specs.Octets.{part}
+use Rattle.wire.specs.Address.{is_group as is_group_mac, is_reserved}
+use Rattle.wire.specs.First.{first, unless}
+use Rattle.wire.specs.Frame.{frame_of}
+use Rattle.wire.specs.Refusal.{as_refused}
+use Rattle.wire.specs.declared.ether.reason.Reason.{Reason}
+use Rattle.wire.specs.declared.ether.reason.Reason.TheVariants.{ShortTunnel, NoVniFlag, BadVersion, Control, NotEthernet, BadOptions, CriticalOption}
+use Rattle.wire.specs.declared.ether.reason.Reason.TheVariants.{UnknownVni, WrongGroup, UnknownPeer, InnerRunt, BadSource, Reserved, InnerTag}
+use Rattle.wire.specs.declared.ether.reason.Refused.{Refused}
+use Rattle.wire.proofs.FirstLemmas.{NothingHolds}
 use Rattle.filter_db.specs.declared.place.Place.TheVariants.{Remote}
-use Rattle.ip_udp_view.specs.declared.addr.Tunnel.{Tunnel}
-use Rattle.ip_udp_view.specs.Addr.{is_group}
-use Rattle.ip_udp_view.specs.Parts.{Parts}
-use Rattle.ip_udp_view.specs.Udp.{data_of, is_bad_udp}
-use Rattle.underlay.specs.declared.segment.Segment.{Segment}
-use Rattle.underlay.specs.declared.settings.Underlay.{Underlay}
-use Rattle.underlay.specs.Overlay.{Overlay, floods, has_tunnel, is_listed, segment_at, segment_by}
-use Rattle.underlay.proofs.CountLemmas.{found_where}
+use Rattle.wire.specs.declared.ip_udp.addr.Tunnel.{Tunnel}
+use Rattle.wire.specs.Addr.{is_group}
+use Rattle.wire.specs.IpParts.{Parts}
+use Rattle.wire.specs.Udp.{data_of, is_bad_udp}
+use Rattle.overlay.specs.declared.underlay.segment.Segment.{Segment}
+use Rattle.overlay.specs.declared.underlay.settings.Underlay.{Underlay}
+use Rattle.overlay.specs.Overlay.{Overlay, floods, has_tunnel, is_listed, segment_at, segment_by}
+use Rattle.overlay.proofs.CountLemmas.{found_where}
 use Rattle.decapsulate.specs.Arrival.{Packet, packet_in, arrival_in, datagram_reasons, frame_reasons, inner_of, inner_reasons, is_wrong, kind_to, packet_reasons, tunnel_reasons, vni_of}
 use Rattle.endpoint_core.specs.Among.{segment_of}
 use Rattle.endpoint_core.specs.Arrival.{came_by, tunnelled}
-use Rattle.endpoint_core.specs.Came.{Came}
+use Rattle.endpoint_core.specs.Arrival.{Arrival}
 use Rattle.event_story.specs.Carried.{Carried}
 use Rattle.event_story.specs.Ether.{header_fact, source_fact, destination_fact, tag_fact}
 use Rattle.event_story.specs.Packet.{packet_fact, packet_facts, packet_facts_of, packet_tests, packet_if, datagram_in, inner_if, carried_in, carried_by, kind_of, ip_fact, udp_fact, receiver_fact, sum_fact, header_fact_of, vni_fact, group_fact, peer_fact}
@@ -47,7 +47,7 @@ module _ (S : Overlay) (original : ℕ) (b : List ℕ) where
   R = is_packet_refusal S.underlay
 
   -- the fact of a test
-  abbrev saw : Result Came Refused → Reason → Option Fact
+  abbrev saw : Result Arrival Refused → Reason → Option Fact
   saw came t = packet_fact S original b came t
 
   -- the packet, and the data of its datagram
@@ -67,7 +67,7 @@ module _ (S : Overlay) (original : ℕ) (b : List ℕ) where
   peer-quiet false fails is = refl
 
   -- a refusal in a segment names it, as what comes to it does
-  segment-known : (rows : List (Reason × Bool)) (x : Came) → segment_of (unless (first (refused_rows (Some x.vid) rows)) (Ok x)) ≡ Some x.vid
+  segment-known : (rows : List (Reason × Bool)) (x : Arrival) → segment_of (unless (first (refused_rows (Some x.vid) rows)) (Ok x)) ≡ Some x.vid
   segment-known [] x = refl
   segment-known (row ∷ rows) x = by (segment-known rows x) row.1
     where
@@ -81,7 +81,7 @@ module _ (S : Overlay) (original : ℕ) (b : List ℕ) where
   segment_tests = WrongGroup ∷ UnknownPeer ∷ InnerRunt ∷ BadSource ∷ Reserved ∷ InnerTag ∷ []
 
   -- a frame from the sender in its segment
-  abbrev comer : Tunnel → ℕ → Came
+  abbrev comer : Tunnel → ℕ → Arrival
   comer kind vid = record { vid = vid; from = Remote kind p.source; frame = frame_of (inner_of kind d) }
 
   abbrev segment_rows : Tunnel → ℕ → Segment → List (Refused × Bool)
@@ -141,12 +141,12 @@ module _ (S : Overlay) (original : ℕ) (b : List ℕ) where
   segment-good kind vid g packet carried segment =
       let rows = inner_reasons g kind p.source p.destination (inner_of kind d) in
       let x = comer kind vid in
-      let table : Result Came Refused = unless (first (segment_rows kind vid g)) (Ok x) in
+      let table : Result Arrival Refused = unless (first (segment_rows kind vid g)) (Ok x) in
       let is : tunnelled (arrival_in (Some (vid, g)) kind p.source p.destination (inner_of kind d)) ≡ table =
       tunnelled-unless (as_refused (Some vid) (first rows)) (Ok (record { vid = vid; from = (kind, p.source); frame = frame_of (inner_of kind d) }))
       ∙ ap (λ (o : Option Refused). unless o (Ok x)) (refused-first (Some vid) rows) in
       let known = ap (λ (o : Option ℕ). tells R (option_map (vni_fact o) (carried_in S b))) (segment-known rows x) ∙ quiet-map U (vni_fact (Some vid)) (carried_in S b) (λ _. refl) in
-      subst (λ (came : Result Came Refused). Good R saw came inner_tests) (sym is)
+      subst (λ (came : Result Arrival Refused). Good R saw came inner_tests) (sym is)
       (pass R saw table UnknownVni segment_tests refl (λ _. known) (rows-good R saw (segment_rows kind vid g) (Ok x) [] refl (inner-rows kind vid g packet carried segment)))
 
   -- and in none
@@ -164,7 +164,7 @@ module _ (S : Overlay) (original : ℕ) (b : List ℕ) where
   head-told kind is u true = ap (λ (o : Option Tunnel). tells R (option_map (λ (k : Tunnel). facts.Header k u) o)) is
   head-told kind is u false = refl
 
-  heads-told : (kind : Tunnel) → option_and_then (kind_of U) (datagram_in b) ≡ Some kind → (came : Result Came Refused)
+  heads-told : (kind : Tunnel) → option_and_then (kind_of U) (datagram_in b) ≡ Some kind → (came : Result Arrival Refused)
       → AllByRecursion (λ u. tells R (saw came u) ≡ refuses (refusal_of came) u) head_tests
   heads-told kind is came =
       let one = λ (u : Reason). head-told kind is u (refuses (refusal_of came) u) in
@@ -182,7 +182,7 @@ module _ (S : Overlay) (original : ℕ) (b : List ℕ) where
 
       by : (o : Option Reason) → first (tunnel_reasons U.known kind d) ≡ o → among o head_tests ≡ true → Good R saw (unless (as_refused None o) (brought S b (Some kind))) (head_tests ++ inner_tests)
       by (Some r) first_is there =
-          let came : Result Came Refused = Err (record { segment = None; reason = r }) in
+          let came : Result Arrival Refused = Err (record { segment = None; reason = r }) in
           record {
             agree = agree-front R (saw came) (Some r) head_tests inner_tests (heads-told kind kind_told came)
                 (λ none. absurd (false≢true (sym (none-among r head_tests none) ∙ there)));
@@ -197,7 +197,7 @@ module _ (S : Overlay) (original : ℕ) (b : List ℕ) where
           }
 
   -- what comes behind the tests of a datagram
-  abbrev rest : Option Tunnel → Result Came Refused
+  abbrev rest : Option Tunnel → Result Arrival Refused
   rest kind = unless (as_refused None (first (head_reasons S b kind))) (brought S b kind)
 
   rest-good : packet_if b ≡ Some p → datagram_in b ≡ Some (found_in b) → (kind : Option Tunnel) → kind_of U (found_in b) ≡ kind → is_none kind ≡ false → Good R saw (rest kind) (head_tests ++ inner_tests)
@@ -286,10 +286,10 @@ module _ (S : Overlay) (original : ℕ) (b : List ℕ) where
 
 pub packet-refusals : (S : Overlay) (original : ℕ) (b : List ℕ) → RefusesAs (is_packet_refusal S.underlay) (came_by S original b) (packet_facts S original b)
 packet-refusals S original b =
-    subst (λ (came : Result Came Refused). RefusesAs (is_packet_refusal S.underlay) came (packet_facts_of S original b came)) (sym (came-table S original b))
+    subst (λ (came : Result Arrival Refused). RefusesAs (is_packet_refusal S.underlay) came (packet_facts_of S original b came)) (sym (came-table S original b))
     (told-as (is_packet_refusal S.underlay) (saw S original b table) table packet_tests good.agree)
   where
-    table : Result Came Refused
+    table : Result Arrival Refused
     table = unless (first (refused_rows None (front_reasons S original b))) (rest S original b (kind_to S.underlay (packet_in b)))
 
     good : Good (is_packet_refusal S.underlay) (saw S original b) table packet_tests

@@ -2,31 +2,31 @@
 use Rattle.std.proofs.Common.{◌≡◌, ◌∙◌, refl, sym, ap, ℕ, ◌==◌, Bool, true, false, cond, ◌||◌, nat_lt, is_none, List, [], ◌∷◌, ◌++◌, length, take, map, Option, Some, None, Result, option_map, option_and_then}
 use Rattle.std.specs.List.{AllByRecursion, list_any, list_all}
 use Rattle.std.proofs.lemmas.Bool.{false≢true, and_parts, or_right}
-use Rattle.header_octets.specs.Octets.{part}
-use Rattle.frame_view.specs.Ether.{Split, Untagged, WithTag, CutShort, tag_split}
-use Rattle.frame_view.specs.First.{first, unless}
-use Rattle.frame_view.specs.Reason.{number_of}
-use Rattle.frame_view.specs.Refusal.{as_refused}
-use Rattle.frame_view.specs.declared.reason.Reason.{Reason}
-use Rattle.frame_view.specs.declared.reason.Reason.TheVariants.{ShortTunnel, NoVniFlag, BadVersion, Control, NotEthernet, BadOptions, CriticalOption}
-use Rattle.frame_view.specs.declared.reason.Reason.TheVariants.{UnknownVni, WrongGroup, UnknownPeer, InnerRunt, BadSource, Reserved, InnerTag}
-use Rattle.frame_view.specs.declared.reason.Refused.{Refused}
-use Rattle.frame_view.proofs.FirstLemmas.{NothingHolds, first-nothing}
-use Rattle.ip_udp_view.specs.declared.addr.Tunnel.{Tunnel}
-use Rattle.ip_udp_view.specs.declared.addr.Tunnel.TheVariants.{Vxlan, Geneve}
-use Rattle.ip_udp_view.specs.Parts.{Parts}
-use Rattle.ip_udp_view.specs.Udp.{data_of, is_bad_udp, udp_faults, udp_parts, sum_state}
-use Rattle.ip_udp_view.proofs.UdpLemmas.{found-udp, datagram-split, ReadsAs-from}
-use Rattle.vxlan_head.specs.Reading.{vxlan_faults, reason_of as vxlan_reason}
-use Rattle.geneve_head.specs.Reading.{geneve_faults, reason_of as geneve_reason}
-use Rattle.underlay.specs.declared.settings.Underlay.{Underlay}
-use Rattle.underlay.specs.Overlay.{Overlay}
-use Rattle.underlay.specs.Settings.{kind_at}
+use Rattle.wire.specs.Octets.{part}
+use Rattle.wire.specs.Ether.{Split, Untagged, WithTag, CutShort, tag_split}
+use Rattle.wire.specs.First.{first, unless}
+use Rattle.wire.specs.Reason.{number_of}
+use Rattle.wire.specs.Refusal.{as_refused}
+use Rattle.wire.specs.declared.ether.reason.Reason.{Reason}
+use Rattle.wire.specs.declared.ether.reason.Reason.TheVariants.{ShortTunnel, NoVniFlag, BadVersion, Control, NotEthernet, BadOptions, CriticalOption}
+use Rattle.wire.specs.declared.ether.reason.Reason.TheVariants.{UnknownVni, WrongGroup, UnknownPeer, InnerRunt, BadSource, Reserved, InnerTag}
+use Rattle.wire.specs.declared.ether.reason.Refused.{Refused}
+use Rattle.wire.proofs.FirstLemmas.{NothingHolds, first-nothing}
+use Rattle.wire.specs.declared.ip_udp.addr.Tunnel.{Tunnel}
+use Rattle.wire.specs.declared.ip_udp.addr.Tunnel.TheVariants.{Vxlan, Geneve}
+use Rattle.wire.specs.IpParts.{Parts}
+use Rattle.wire.specs.Udp.{data_of, is_bad_udp, udp_faults, udp_parts, sum_state}
+use Rattle.wire.proofs.UdpLemmas.{found-udp, datagram-split, ReadsAs-from}
+use Rattle.wire.specs.VxlanReading.{vxlan_faults, reason_of as vxlan_reason}
+use Rattle.wire.specs.GeneveReading.{geneve_faults, reason_of as geneve_reason}
+use Rattle.overlay.specs.declared.underlay.settings.Underlay.{Underlay}
+use Rattle.overlay.specs.Overlay.{Overlay}
+use Rattle.overlay.specs.UnderlaySettings.{kind_at}
 use Rattle.decapsulate.specs.Arrival.{Packet, packet_in, arrival, arrival_by, capture_reasons, data_reasons, datagram_reasons, frame_reasons, inner_of, kind_to, outer_reasons, packet_reasons, sum_of, tunnel_reasons, vni_of}
 use Rattle.decapsulate.specs.declared.arrived.Arrived.{Arrived}
 use Rattle.decapsulate.proofs.PacketLemmas.{first-as_reasons}
 use Rattle.endpoint_core.specs.Arrival.{came_by, tunnelled}
-use Rattle.endpoint_core.specs.Came.{Came}
+use Rattle.endpoint_core.specs.Arrival.{Arrival}
 use Rattle.event_story.specs.Carried.{Carried}
 use Rattle.event_story.specs.Ether.{header_fact, if_whole, tag_told, tag_fact}
 use Rattle.event_story.specs.Packet.{packet_if, datagram_if, datagram_in, inner_if, kind_of}
@@ -60,7 +60,7 @@ abbrev pub front_reasons : Overlay → ℕ → List ℕ → List (Reason × Bool
 front_reasons S original b = capture_reasons original b ++ frame_reasons b ++ packet_reasons S.underlay (packet_in b) ++ datagram_reasons S.underlay (packet_in b)
 
 -- what stands in a datagram to the port of a kind of tunnels
-abbrev pub brought : Overlay → List ℕ → Option Tunnel → Result Came Refused
+abbrev pub brought : Overlay → List ℕ → Option Tunnel → Result Arrival Refused
 brought S b kind = tunnelled (arrival_by S kind (packet_in b).source (packet_in b).destination (data_of (packet_in b).payload))
 
 -- the reasons of its tunnel header

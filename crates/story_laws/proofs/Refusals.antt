@@ -3,11 +3,11 @@ use Rattle.std.proofs.Common.{◌≡◌, ◌∙◌, refl, sym, ap, ℕ, ◌==◌
 use Rattle.std.specs.List.{list_any}
 use Rattle.std.specs.Option.{option_map_or}
 use Rattle.std.proofs.lemmas.Bool.{eq-eqb, eqb-true, false≢true, or_right, and_parts, not-true}
-use Rattle.frame_view.specs.First.{first, unless}
-use Rattle.frame_view.specs.Reason.{number_of}
-use Rattle.frame_view.specs.declared.reason.Reason.{Reason}
-use Rattle.frame_view.specs.declared.reason.Refused.{Refused}
-use Rattle.endpoint_core.specs.Came.{Came}
+use Rattle.wire.specs.First.{first, unless}
+use Rattle.wire.specs.Reason.{number_of}
+use Rattle.wire.specs.declared.ether.reason.Reason.{Reason}
+use Rattle.wire.specs.declared.ether.reason.Refused.{Refused}
+use Rattle.endpoint_core.specs.Arrival.{Arrival}
 use Rattle.event_story.specs.Tests.{refusal_of, refuses, told}
 use Rattle.event_story.specs.declared.fact.Fact.{Fact}
 use Rattle.story_laws.specs.Refusing.{NoneRefuses, LastRefuses, RefusesAs}
@@ -49,7 +49,7 @@ last-told : (R : Fact → Bool) (saw : Reason → Option Fact) (r : Reason) (ts 
 last-told R saw r [] h = absurd cc
 last-told R saw r (t ∷ ts) h = last-front R (saw t) (number_of r == number_of t) (told saw (Some r) ts) h.0 (λ fails. last-told R saw r ts (h.1 fails))
 
-pub told-as : (R : Fact → Bool) (saw : Reason → Option Fact) (came : Result Came Refused) (ts : List Reason) → Agree R saw (refusal_of came) ts → RefusesAs R came (told saw (refusal_of came) ts)
+pub told-as : (R : Fact → Bool) (saw : Reason → Option Fact) (came : Result Arrival Refused) (ts : List Reason) → Agree R saw (refusal_of came) ts → RefusesAs R came (told saw (refusal_of came) ts)
 told-as R saw (Ok x) ts h = none-told R saw ts h
 told-as R saw (Err refused) ts h = last-told R saw refused.reason ts h
 
@@ -70,7 +70,7 @@ are_apart [] = true
 are_apart (t ∷ ts) = is_apart t ts && are_apart ts
 
 -- the facts of these tests refuse as they do, and there is no other refusal
-pub record Good (R : Fact → Bool) (saw : Result Came Refused → Reason → Option Fact) (came : Result Came Refused) (ts : List Reason) : Type 0 where
+pub record Good (R : Fact → Bool) (saw : Result Arrival Refused → Reason → Option Fact) (came : Result Arrival Refused) (ts : List Reason) : Type 0 where
   pub agree : Agree R (saw came) (refusal_of came) ts
   pub among : among (refusal_of came) ts ≡ true
 
@@ -89,14 +89,14 @@ among-more None t ts h = refl
 among-more (Some r) t ts h = or_right (number_of r == number_of t) (list_any (λ u. number_of r == number_of u) ts) h
 
 -- a test that doesn't refuse
-pub pass : (R : Fact → Bool) (saw : Result Came Refused → Reason → Option Fact) (came : Result Came Refused) (t : Reason) (ts : List Reason)
+pub pass : (R : Fact → Bool) (saw : Result Arrival Refused → Reason → Option Fact) (came : Result Arrival Refused) (t : Reason) (ts : List Reason)
     → is_apart t ts ≡ true → (refuses (refusal_of came) t ≡ false → tells R (saw came t) ≡ false) → Good R saw came ts → Good R saw came (t ∷ ts)
 pass R saw came t ts apart quiet rest =
     let fails = other-reason (refusal_of came) t ts rest.among apart in
     record { agree = (quiet fails ∙ sym fails, λ _. rest.agree); among = among-more (refusal_of came) t ts rest.among }
 
 -- one that does
-pub stop : (R : Fact → Bool) (saw : Result Came Refused → Reason → Option Fact) (refused : Refused) (ts : List Reason)
+pub stop : (R : Fact → Bool) (saw : Result Arrival Refused → Reason → Option Fact) (refused : Refused) (ts : List Reason)
     → tells R (saw (Err refused) refused.reason) ≡ true → Good R saw (Err refused) (refused.reason ∷ ts)
 stop R saw refused ts loud =
     let same = eq-eqb (number_of refused.reason) (number_of refused.reason) refl in
@@ -112,7 +112,7 @@ abbrev pub reasons_of : List (Refused × Bool) → List Reason
 reasons_of rows = map (λ (row : Refused × Bool). row.0.reason) rows
 
 -- the fact of each row refuses as its test does; behind them others do
-abbrev pub Rows : (Fact → Bool) → (Result Came Refused → Reason → Option Fact) → List (Refused × Bool) → Result Came Refused → List Reason → Type 0
+abbrev pub Rows : (Fact → Bool) → (Result Arrival Refused → Reason → Option Fact) → List (Refused × Bool) → Result Arrival Refused → List Reason → Type 0
 Rows R saw [] rest ts = Good R saw rest ts
 Rows R saw (row ∷ rows) rest ts =
     (row.1 ≡ true → tells R (saw (Err row.0) row.0.reason) ≡ true)
@@ -122,7 +122,7 @@ Rows R saw (row ∷ rows) rest ts =
     × Rows R saw rows rest ts
     )
 
-pub rows-good : (R : Fact → Bool) (saw : Result Came Refused → Reason → Option Fact) (rows : List (Refused × Bool)) (rest : Result Came Refused) (ts : List Reason)
+pub rows-good : (R : Fact → Bool) (saw : Result Arrival Refused → Reason → Option Fact) (rows : List (Refused × Bool)) (rest : Result Arrival Refused) (ts : List Reason)
     → are_apart (reasons_of rows ++ ts) ≡ true → Rows R saw rows rest ts → Good R saw (unless (first rows) rest) (reasons_of rows ++ ts)
 rows-good R saw [] rest ts apart h = h
 rows-good R saw (row ∷ rows) rest ts apart h = by (λ later. rows-good R saw rows rest ts parts.1 later) row.1 refl
@@ -137,7 +137,7 @@ rows-good R saw (row ∷ rows) rest ts apart h = by (λ later. rows-good R saw r
         pass R saw (unless (first rows) rest) row.0.reason (reasons_of rows ++ ts) parts.0 behind.0 (good behind.1)
 
 -- two tables, one behind the other
-pub unless-append : (rows others : List (Refused × Bool)) (rest : Result Came Refused) → unless (first rows) (unless (first others) rest) ≡ unless (first (rows ++ others)) rest
+pub unless-append : (rows others : List (Refused × Bool)) (rest : Result Arrival Refused) → unless (first rows) (unless (first others) rest) ≡ unless (first (rows ++ others)) rest
 unless-append [] others rest = refl
 unless-append (row ∷ rows) others rest = by (unless-append rows others rest) row.1
   where

@@ -1,2 +1,4 @@
+pub mod ReadBack
 pub mod Refusing
 pub mod Told
+pub mod WholeRuns

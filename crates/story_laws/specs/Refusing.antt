@@ -4,10 +4,10 @@
 --     RefusesAs      of the facts that are told none refuses, or the last alone
 use Rattle.std.specs.Prelude.{◌≡◌, ◌==◌, nat_lt, not, ◌||◌, is_none, Bool, true, false, List, [], ◌∷◌, ◌++◌, Result, Ok, Err}
 use Rattle.std.specs.List.{AllByRecursion}
-use Rattle.frame_view.specs.declared.reason.Refused.{Refused}
-use Rattle.underlay.specs.declared.settings.Underlay.{Underlay}
+use Rattle.wire.specs.declared.ether.reason.Refused.{Refused}
+use Rattle.overlay.specs.declared.underlay.settings.Underlay.{Underlay}
 use Rattle.decapsulate.specs.Arrival.{is_wrong}
-use Rattle.endpoint_core.specs.Came.{Came}
+use Rattle.endpoint_core.specs.Arrival.{Arrival}
 use Rattle.event_story.specs.declared.fact.Fact.{Fact}
 use Rattle.event_story.specs.declared.fact.Fact.TheVariants as facts
 
@@ -67,6 +67,6 @@ pub record LastRefuses (refuses : Fact → Bool) (fs : List Fact) : Type 0 where
   pub last_refuses : refuses last ≡ true
 
 -- where a frame or a packet came to a segment, none of them refuses; where it was refused, the last does, and no other
-abbrev pub RefusesAs : (Fact → Bool) → Result Came Refused → List Fact → Type 0
+abbrev pub RefusesAs : (Fact → Bool) → Result Arrival Refused → List Fact → Type 0
 RefusesAs refuses (Ok x) fs = NoneRefuses refuses fs
 RefusesAs refuses (Err refused) fs = LastRefuses refuses fs

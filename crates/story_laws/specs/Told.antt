@@ -5,17 +5,17 @@
 --     AreApart      no two facts that follow each other could be one
 use Rattle.std.specs.Prelude.{◌≡◌, ◌<◌, ⊤, ℕ, ◌+◌, ◌-◌, ◌^◌, List, [], ◌∷◌, map, length, Option, Some, None}
 use Rattle.std.specs.List.{range_with_len}
-use Rattle.header_octets.specs.Octets.{IsText}
-use Rattle.ip_udp_view.specs.Addr.{IsAddr}
+use Rattle.wire.specs.Octets.{IsText}
+use Rattle.wire.specs.Addr.{IsAddr}
 use Rattle.filter_db.specs.declared.place.Place.{Place}
 use Rattle.filter_db.specs.declared.place.Place.TheVariants.{Local}
-use Rattle.underlay.specs.declared.tunnels.SegmentTunnel.{SegmentTunnel}
-use Rattle.overlay_settings.specs.declared.change.Change.{Change}
-use Rattle.overlay_settings.specs.declared.change.Change.TheVariants.{AddFlood, RemoveFlood, Fix, Unfix, SetAgeing}
-use Rattle.overlay_settings.specs.declared.change.Change.TheVariants.{SetLearning, SetMember, PortUp, PortDown}
-use Rattle.overlay_settings.specs.declared.change.Change.TheVariants.{Flush, AddSegment, RemoveSegment, SetLimit}
-use Rattle.overlay_settings.specs.declared.change.Target.{Target}
-use Rattle.overlay_settings.specs.declared.change.Target.TheVariants as target
+use Rattle.overlay.specs.declared.underlay.tunnels.SegmentTunnel.{SegmentTunnel}
+use Rattle.overlay.specs.declared.settings.change.Change.{Change}
+use Rattle.overlay.specs.declared.settings.change.Change.TheVariants.{AddFlood, RemoveFlood, Fix, Unfix, SetAgeing}
+use Rattle.overlay.specs.declared.settings.change.Change.TheVariants.{SetLearning, SetMember, PortUp, PortDown}
+use Rattle.overlay.specs.declared.settings.change.Change.TheVariants.{Flush, AddSegment, RemoveSegment, SetLimit}
+use Rattle.overlay.specs.declared.settings.change.Target.{Target}
+use Rattle.overlay.specs.declared.settings.change.Target.TheVariants as target
 use Rattle.change_story.specs.Change.{other_kind}
 use Rattle.event_story.specs.Neighbours.{joined}
 use Rattle.event_story.specs.declared.fact.Fact.{Fact}

@@ -3,12 +3,12 @@ ghost use Rattle.std.specs.Prelude.{◌≡◌, ◌<◌, ◌≤◌, ℕ, ◌==◌
 ghost use Rattle.std.specs.Prelude.{List, ◌∷◌, ◌++◌, length, map, filter, Option, Some, None};
 ghost use Rattle.std.specs.List.{AllByRecursion, flat_map};
 ghost use Rattle.std.specs.Option.{option_to_list};
-ghost use Rattle.frame_view.specs.Reason.{number_of};
-ghost use Rattle.frame_view.specs.declared.reason.Reason.{Reason};
+ghost use Rattle.wire.specs.Reason.{number_of};
+ghost use Rattle.wire.specs.declared.ether.reason.Reason.{Reason};
 ghost use Rattle.filter_db.specs.declared.place.Place.{Place};
-ghost use Rattle.vlan_ports.specs.Ports.{Ports};
-ghost use Rattle.underlay.specs.Overlay.{Overlay};
-ghost use Rattle.overlay_settings.specs.declared.change.Change.{Change};
+ghost use Rattle.overlay.specs.Ports.{Ports};
+ghost use Rattle.overlay.specs.Overlay.{Overlay};
+ghost use Rattle.overlay.specs.declared.settings.change.Change.{Change};
 ghost use Rattle.tunnel_learning.specs.Bridge.{Config, local_places, remote_places};
 ghost use Rattle.endpoint_core.specs.Arrival.{came_at, came_by};
 ghost use Rattle.change_story.specs.Change.{change_text};

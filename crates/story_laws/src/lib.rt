@@ -12,6 +12,14 @@
 //! tests of a frame or a packet those are told that come up to the one that refuses it, which is the last, or all where none
 //! does. Of the facts that are told of the tests the last one's value refuses, and no other, where the frame or packet is
 //! refused; none where it isn't.
+//!
+//! Proved besides:
+//! - Of the facts that are told of the tests, the last one refuses by its own value where the frame or packet is
+//!   refused, and none before it does; where it comes to a segment, none does: `laws::refusals`. Which value of a fact
+//!   refuses, as a length above the most or a port that is down, stands in `specs/Refusing`. Two facts of a packet
+//!   aren't judged by their words alone: a checksum left to the sender's card refuses where the settings don't take it,
+//!   and a tag cut short in a tunnel's frame never.
 #![tactic(auto)]
 
 pub mod laws;
+pub mod objects;

@@ -5,8 +5,8 @@ use crate::digest::Digest;
 use crate::draws::Draws;
 use crate::fault::{JobFault, Stage};
 use crate::way::{Counts, Place, WITHIN, Way};
+use capture_compare::carried::{KeyRoom, Manner, Sameness, Tunnels};
 use capture_compare::{Aside, compare_captures};
-use carried_key::{KeyRoom, Manner, Sameness, Tunnels};
 use record_match::{Clock, Comparison, Nobody};
 use std::alloc::Global;
 

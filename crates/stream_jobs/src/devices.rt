@@ -1,15 +1,15 @@
 //! Captures as the program opens them, and outputs as it writes them, over memory.
 ghost use Rattle.std.specs.Prelude.{◌≡◌, ◌<◌, ◌^◌, All, IfOk, length};
-ghost use Rattle.pcap_stream.specs.Source.{New, Stream, most_left};
+ghost use Rattle.pcap.specs.Source.{New, Stream, most_left};
 
 use crate::digest::{Digest, DigestOutput};
 use crate::fault::{JobFault, Stage};
 use crate::tape::Tape;
-use pcap_stream::{BlockOutput, Sink, Source};
+use pcap::stream::{BlockOutput, Sink, Source};
 use pcapng_input::{CaptureInput, Selection};
 use segment_set::SegmentSet;
 use std::alloc::{AllocError, Global};
-use stream_run::{Captures, Outputs, Unwatched, run_segments};
+use stream_run::{Captures, Job, Outputs, ReadTexts, TakesAll, Unwatched, read_texts, run};
 use test_inputs::{Pieces, in_pieces};
 
 /// How many octets are read, and written, at once: as many as a pipe holds.
@@ -95,13 +95,27 @@ pub fn written(
         underlay: Sink::new(BlockOutput::new(alloc, DigestOutput::new(), BLOCK)?),
         decisions: BlockOutput::new(alloc, DigestOutput::new(), BLOCK)?,
     };
-    let end = run_segments(
+    let Ok(read) = read_texts(alloc, settings, &[]) else {
+        return Err(JobFault::Failed(Stage::Run));
+    };
+    let ReadTexts {
+        settings: asked,
+        changes: told,
+    } = read;
+    let all = SegmentSet::all();
+    let job = Job {
+        settings_text: settings,
+        changes_text: &[],
+        settings: asked,
+        changes: told.as_slice(),
+        segments: &all,
+    };
+    let end = run(
         alloc,
-        settings,
-        &[],
+        job,
         &mut captures,
         &mut outputs,
-        &SegmentSet::all(),
+        &mut TakesAll,
         &mut Unwatched,
     );
     if end.is_err() {

@@ -2,7 +2,7 @@
 ghost use Rattle.std.specs.Prelude.{◌≤◌, None, length};
 
 use byteorder::{ByteOrder, LittleEndian};
-use pcap_stream::{DeviceFault, Output, WriteFault};
+use pcap::stream::{DeviceFault, Output, WriteFault};
 
 /// How many octets are added at once.
 const BLOCK: usize = 32;

@@ -1,6 +1,6 @@
 //! Captures that are made in room of their own, which is used again from round to round.
 
-use pcap_io::global_header;
+use pcap::text::global_header;
 use std::alloc::{AllocError, Global};
 
 /// Room for a capture, and how much of it is written.

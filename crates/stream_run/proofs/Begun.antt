@@ -1,12 +1,12 @@
 -- The first record of each capture, fetched one after another.
 use Rattle.std.proofs.Common.{◌≡◌, ◌≢◌, ◌∙◌, refl, sym, ap, subst, ℕ, ◌+◌, ◌<◌, ◌≤◌, List, length, slice_set, slice_index_or, arith, Ok, Err, inl, inr}
 use Rattle.std.proofs.lemmas.List.{length-set}
-use Rattle.pcap_stream.specs.Source.{Stream}
-use Rattle.pcap_stream.specs.declared.fault.SourceFault.{SourceFault}
-use Rattle.pcap_stream.specs.declared.fault.SourceFault.TheVariants as source
+use Rattle.pcap.specs.Source.{Stream}
+use Rattle.pcap.specs.declared.stream.fault.SourceFault.{SourceFault}
+use Rattle.pcap.specs.declared.stream.fault.SourceFault.TheVariants as source
 use Rattle.timeline.specs.declared.source.Tap.{Tap}
 use Rattle.timeline.specs.declared.source.Tap.TheVariants.{Port, Underlay}
-use Rattle.overlay_settings.specs.declared.change.TimedChange.{TimedChange}
+use Rattle.overlay.specs.declared.settings.change.TimedChange.{TimedChange}
 use Rattle.endpoint_core.specs.Step.{State}
 use Rattle.stream_run.specs.Begun.{AreAtFirst, OnlyReads}
 use Rattle.stream_run.specs.Fault.{fault_of}

@@ -2,12 +2,12 @@
 use Rattle.std.proofs.Common.{◌≡◌, ◌∙◌, refl, sym, ap, subst, ℕ, List, [], ◌++◌, append-nil, length, slice_index_or, arith, Vec, Global, Option, None, Some, Ok, Err}
 use Rattle.std.proofs.lemmas.List.{length-map}
 use Rattle.std.specs.List.{FoldsTo}
-use Rattle.pcap_io.specs.Record.{Record}
-use Rattle.pcap_stream.specs.Source.{Stream}
-use Rattle.overlay_settings.specs.Settings.{Settings}
-use Rattle.overlay_settings.specs.declared.change.TimedChange.{TimedChange}
+use Rattle.pcap.specs.Record.{Record}
+use Rattle.pcap.specs.Source.{Stream}
+use Rattle.overlay.specs.Settings.{Settings}
+use Rattle.overlay.specs.declared.settings.change.TimedChange.{TimedChange}
 use Rattle.endpoint_core.specs.Step.{State, opened}
-use Rattle.endpoint_state.specs.Opened.{settings_told}
+use Rattle.endpoint_core.specs.Opened.{settings_told}
 use Rattle.timeline.specs.declared.event.Event.{Event}
 use Rattle.capture_run.specs.Outputs.{Outputs}
 use Rattle.capture_run.specs.Among.{cuts_among}

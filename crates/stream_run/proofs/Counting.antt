@@ -4,12 +4,12 @@ use Rattle.std.specs.List.{AllByRecursion}
 use Rattle.std.proofs.lemmas.Bool.{eq-eqb, eqb-true, eqb-false}
 use Rattle.std.proofs.lemmas.List.{get_or-set_same, get_or-set_other}
 use Rattle.timeline.proofs.KnownEvents.{all-append}
-use Rattle.pcap_io.specs.Next.{End, Faulty}
-use Rattle.pcap_io.specs.Reading.{Reading, records}
-use Rattle.pcap_io.specs.Record.{Record}
-use Rattle.pcap_io.specs.declared.header.CaptureFault.{CaptureFault}
-use Rattle.pcap_io.specs.declared.record.RecordFault.{RecordFault}
-use Rattle.pcap_stream.specs.Source.{Stream}
+use Rattle.pcap.specs.Next.{End, Faulty}
+use Rattle.pcap.specs.Reading.{Reading, records}
+use Rattle.pcap.specs.Record.{Record}
+use Rattle.pcap.specs.declared.text.header.CaptureFault.{CaptureFault}
+use Rattle.pcap.specs.declared.text.record.RecordFault.{RecordFault}
+use Rattle.pcap.specs.Source.{Stream}
 use Rattle.timeline.specs.Words.{source_of}
 use Rattle.timeline.specs.declared.event.Event.{Event}
 use Rattle.timeline.specs.declared.source.Source.{Source}

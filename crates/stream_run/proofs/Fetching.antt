@@ -1,18 +1,18 @@
 -- What a fetch tells.
 use Rattle.std.proofs.Common.{◌≡◌, ◌≢◌, ◌∙◌, refl, sym, ap, subst, ℕ, ◌+◌, ◌≤◌, max, List, length, arith, Option, Some, None, option_map, IfSome, Result, Ok, Err}
-use Rattle.pcap_io.specs.Capture.{opened}
-use Rattle.pcap_io.specs.Next.{End, Whole, Cut, Faulty}
-use Rattle.pcap_io.specs.Record.{IsWithinLimits, Record, last_moment}
-use Rattle.pcap_io.specs.declared.record.RecordFault.{RecordFault}
-use Rattle.pcap_io.specs.declared.record.RecordFault.TheVariants.{BadFraction, TooLarge}
-use Rattle.pcap_stream.specs.Fault.{record_fault}
-use Rattle.pcap_stream.specs.InTurn.{IsReading}
-use Rattle.pcap_stream.specs.Source.{Standing, Stream, New, Open, Ended, Failed, IsFilled, IsFilledFrom, MatchRead, ReadsNext, after_end, answer, lent}
-use Rattle.pcap_stream.specs.Supply.{GivesUp}
-use Rattle.pcap_stream.specs.declared.fault.SourceFault.{SourceFault}
-use Rattle.pcap_stream.specs.declared.fault.SourceFault.TheVariants as source
-use Rattle.pcap_stream.proofs.Runs.{ends, one_more}
-use Rattle.pcap_stream.proofs.Refusals.{faulty_end, lends_none}
+use Rattle.pcap.specs.Capture.{opened}
+use Rattle.pcap.specs.Next.{End, Whole, Cut, Faulty}
+use Rattle.pcap.specs.Record.{IsWithinLimits, Record, last_moment}
+use Rattle.pcap.specs.declared.text.record.RecordFault.{RecordFault}
+use Rattle.pcap.specs.declared.text.record.RecordFault.TheVariants.{BadFraction, TooLarge}
+use Rattle.pcap.specs.Fault.{record_fault}
+use Rattle.pcap.specs.InTurn.{IsReading}
+use Rattle.pcap.specs.Source.{Standing, Stream, New, Open, Ended, Failed, IsFilled, IsFilledFrom, MatchRead, ReadsNext, after_end, answer, lent}
+use Rattle.pcap.specs.Supply.{GivesUp}
+use Rattle.pcap.specs.declared.stream.fault.SourceFault.{SourceFault}
+use Rattle.pcap.specs.declared.stream.fault.SourceFault.TheVariants as source
+use Rattle.pcap.proofs.Runs.{ends, one_more}
+use Rattle.pcap.proofs.Refusals.{faulty_end, lends_none}
 use Rattle.timeline.specs.Events.{greatest}
 use Rattle.timeline.specs.declared.source.Tap.{Tap}
 use Rattle.stream_run.specs.Fault.{fault_of}

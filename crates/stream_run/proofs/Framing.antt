@@ -4,17 +4,17 @@ use Rattle.std.specs.Prelude.{slice_get}
 use Rattle.std.specs.Option.{option_map_or}
 use Rattle.std.proofs.Math.Seq.{take-append_seam}
 use Rattle.std.proofs.lemmas.List.{get_or-replicate, length-replicate}
-use Rattle.pcap_io.specs.Record.{last_moment}
-use Rattle.pcap_stream.specs.Source.{Stream}
+use Rattle.pcap.specs.Record.{last_moment}
+use Rattle.pcap.specs.Source.{Stream}
 use Rattle.timeline.specs.declared.event.Event.{Event}
 use Rattle.timeline.specs.declared.source.Tap.{Tap}
 use Rattle.timeline.specs.declared.source.Tap.TheVariants.{Port, Underlay}
 use Rattle.timeline.specs.declared.timeline.Cut.{Cut}
-use Rattle.overlay_settings.specs.Rules.{EachBehind}
-use Rattle.overlay_settings.specs.Settings.{Settings}
-use Rattle.overlay_settings.specs.declared.change.TimedChange.{TimedChange}
+use Rattle.overlay.specs.Rules.{EachBehind}
+use Rattle.overlay.specs.Settings.{Settings}
+use Rattle.overlay.specs.declared.settings.change.TimedChange.{TimedChange}
 use Rattle.overlay_config.specs.Change.{IsRising, moment_before}
-use Rattle.endpoint_state.specs.Opened.{settings_told}
+use Rattle.endpoint_core.specs.Opened.{settings_told}
 use Rattle.endpoint_core.specs.Step.{State, opened}
 use Rattle.capture_run.specs.Writing.{empty_outputs, with_cuts}
 use Rattle.capture_run.specs.declared.fault.RunFault.TheVariants as faults

@@ -2,7 +2,7 @@
 use Rattle.std.proofs.Common.{◌≡◌, ◌∙◌, refl, ap, subst, ℕ, ◌+◌, ◌-◌, ◌*◌, ◌≤◌, nat_le, nat_lt, Bool, true, false, not, ◌&&◌, if◌then◌else◌, MatchBool, List, [], ◌∷◌, ◌++◌, length, length-append, arith, mul-zero, mul-one, mul-add}
 use Rattle.std.proofs.lemmas.Bool.{leb-true, leb-false}
 use Rattle.std.specs.Io.KnownBytes.{Appends}
-use Rattle.pcap_stream.specs.Block.{Block, HoldsBack, may_hold, must_hand_on}
+use Rattle.pcap.specs.Block.{Block, HoldsBack, may_hold, must_hand_on}
 use Rattle.stream_run.specs.HandedOn.{AreSteps, AsksSeldom, GoesOnOnlyThen, HandsOnSeldom, IsHanded, Step, Waits, Wants, Write, asks, hand_overs, octets, wants}
 
 -- ---- one call

@@ -4,12 +4,12 @@ use Rattle.std.proofs.KnownBytes.{Appends-kept}
 use Rattle.std.proofs.lemmas.List.{get_or-set_same, set-get_or}
 use Rattle.std.specs.Prelude.{take}
 use Rattle.std.specs.Io.KnownBytes.{Keeps}
-use Rattle.pcap_stream.specs.Counts.{GoesOnBy}
-use Rattle.pcap_stream.specs.Sink.{Drain, HandsOn, IsHandedOn}
-use Rattle.pcap_stream.specs.Source.{Stream}
+use Rattle.pcap.specs.Counts.{GoesOnBy}
+use Rattle.pcap.specs.Sink.{Drain, HandsOn, IsHandedOn}
+use Rattle.pcap.specs.Source.{Stream}
 use Rattle.segment_set.specs.Segments.{Segments}
-use Rattle.overlay_settings.specs.declared.change.Change.{Change}
-use Rattle.overlay_settings.specs.declared.change.TimedChange.{TimedChange}
+use Rattle.overlay.specs.declared.settings.change.Change.{Change}
+use Rattle.overlay.specs.declared.settings.change.TimedChange.{TimedChange}
 use Rattle.timeline.specs.declared.event.Event.{Event}
 use Rattle.endpoint_core.specs.Among.{is_told}
 use Rattle.endpoint_core.specs.Step.{Answer, State, answer}

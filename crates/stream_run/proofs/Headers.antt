@@ -1,15 +1,15 @@
 -- What an opening tells.
 use Rattle.std.proofs.Common.{◌≡◌, ◌∙◌, refl, sym, ap, subst, ℕ, List, drop, Some, IfSome, Result, Ok, Err}
-use Rattle.pcap_io.specs.Capture.{opened_by}
-use Rattle.pcap_io.specs.Header.{style_of}
-use Rattle.pcap_io.specs.declared.header.CaptureFault.{CaptureFault}
-use Rattle.pcap_io.specs.declared.header.CaptureFault.TheVariants as capture
-use Rattle.pcap_io.specs.declared.style.Style.{Style}
-use Rattle.pcap_stream.specs.Fault.{capture_fault}
-use Rattle.pcap_stream.specs.Source.{Standing, Stream, IsOpened, ReadsHeader, after_header, answer}
-use Rattle.pcap_stream.specs.declared.fault.SourceFault.{SourceFault}
-use Rattle.pcap_stream.specs.declared.fault.SourceFault.TheVariants as source
-use Rattle.pcap_stream.proofs.Runs.{begins}
+use Rattle.pcap.specs.Capture.{opened_by}
+use Rattle.pcap.specs.Header.{style_of}
+use Rattle.pcap.specs.declared.text.header.CaptureFault.{CaptureFault}
+use Rattle.pcap.specs.declared.text.header.CaptureFault.TheVariants as capture
+use Rattle.pcap.specs.declared.text.style.Style.{Style}
+use Rattle.pcap.specs.Fault.{capture_fault}
+use Rattle.pcap.specs.Source.{Standing, Stream, IsOpened, ReadsHeader, after_header, answer}
+use Rattle.pcap.specs.declared.stream.fault.SourceFault.{SourceFault}
+use Rattle.pcap.specs.declared.stream.fault.SourceFault.TheVariants as source
+use Rattle.pcap.proofs.Runs.{begins}
 use Rattle.timeline.specs.declared.source.Tap.{Tap}
 use Rattle.stream_run.specs.Begun.{RefusesHeader, ReadsOn, TellsHeader}
 use Rattle.stream_run.specs.Fault.{fault_of}

@@ -5,15 +5,15 @@ use Rattle.std.proofs.Math.Seq.{take-append_seam}
 use Rattle.std.proofs.lemmas.Bool.{eq-eqb}
 use Rattle.std.proofs.lemmas.List.{get_or-map, length-map}
 use Rattle.std.specs.List.{FoldsTo}
-use Rattle.pcap_io.specs.declared.header.CaptureFault.{CaptureFault}
-use Rattle.pcap_stream.specs.InTurn.{IsReading}
-use Rattle.pcap_stream.specs.Source.{Stream}
-use Rattle.overlay_settings.specs.Settings.{Settings}
-use Rattle.overlay_settings.specs.declared.change.Change.{Change}
-use Rattle.overlay_settings.specs.declared.change.TimedChange.{TimedChange}
+use Rattle.pcap.specs.declared.text.header.CaptureFault.{CaptureFault}
+use Rattle.pcap.specs.InTurn.{IsReading}
+use Rattle.pcap.specs.Source.{Stream}
+use Rattle.overlay.specs.Settings.{Settings}
+use Rattle.overlay.specs.declared.settings.change.Change.{Change}
+use Rattle.overlay.specs.declared.settings.change.TimedChange.{TimedChange}
 use Rattle.endpoint_core.specs.Step.{State, opened}
-use Rattle.endpoint_state.specs.Opened.{settings_told}
-use Rattle.endpoint_state.specs.Settings.{Settings as Bridged}
+use Rattle.endpoint_core.specs.Opened.{settings_told}
+use Rattle.endpoint_core.specs.Settings.{Settings as Bridged}
 use Rattle.timeline.specs.Events.{all_events}
 use Rattle.timeline.specs.Faults.{faults_of}
 use Rattle.timeline.specs.Inputs.{inputs, opened_captures}
@@ -27,9 +27,6 @@ use Rattle.timeline.specs.declared.source.Tap.TheVariants.{Port, Underlay}
 use Rattle.capture_run.proofs.Faults.{ports_counted}
 use Rattle.capture_run.proofs.Among.{no_cuts_among, ports_counted_among}
 use Rattle.capture_run.specs.Among.{by_timeline_among, cuts_among, outputs_among, with_events_among}
-use Rattle.config_text.specs.declared.fault.SettingsFault.{SettingsFault}
-use Rattle.config_text.specs.declared.fault.SettingsFault.TheVariants as refused_
-use Rattle.capture_run.specs.Fault.{of_changes, of_settings, of_text}
 use Rattle.capture_run.specs.Outputs.{Outputs}
 use Rattle.overlay_config.specs.Fault.{Meaning}
 use Rattle.capture_run.specs.Run.{Gives, by_timeline, run}
@@ -130,21 +127,6 @@ one_refused ports new underlay new_underlay texts text place fault tells (index,
 abbrev pub IsRefusal : RunFault → Type 0
 IsRefusal (faults.Record place n f) = ⊥
 IsRefusal fault = ⊤
-
-text_refusal : (names : SettingsFault → RunFault) (fault : SettingsFault) → ((f : SettingsFault) → IsRefusal (names f)) → IsRefusal (of_text names fault)
-text_refusal names refused_.NotToml each = each refused_.NotToml
-text_refusal names (refused_.Missing key) each = each (refused_.Missing key)
-text_refusal names (refused_.BadValue key) each = each (refused_.BadValue key)
-text_refusal names (refused_.TwoSegments key) each = each (refused_.TwoSegments key)
-text_refusal names (refused_.NotRising key) each = each (refused_.NotRising key)
-text_refusal names (refused_.OverLimit key) each = each (refused_.OverLimit key)
-text_refusal names refused_.OutOfMemory each = tt
-
-pub settings_refusal : (fault : SettingsFault) → IsRefusal (of_settings fault)
-settings_refusal fault = text_refusal (λ f. faults.Settings f) fault (λ f. tt)
-
-pub changes_refusal : (fault : SettingsFault) → IsRefusal (of_changes fault)
-changes_refusal fault = text_refusal (λ f. faults.Changes f) fault (λ f. tt)
 
 module _ (taken : List Event → List Event) (nothing : taken [] ≡ []) (segments : Segments) where
   stage_events : (S : Bridged) (cs : List Change) (n : ℕ) (t : Timeline) (es rest : List Event) → t.events ≡ es ++ rest

@@ -1,10 +1,10 @@
 -- What an event and the fetch behind it tell of the octets of a run's captures.
 use Rattle.std.proofs.Common.{◌≡◌, ◌≢◌, ◌∙◌, refl, sym, ap, subst, ℕ, ◌+◌, ◌<◌, inl, inr, List, [], ◌∷◌, ◌++◌, length, length-append, drop, slice_index_or, slice_set, arith, Option, Some, Result, Ok, Err}
 use Rattle.std.proofs.lemmas.List.{length-set}
-use Rattle.pcap_io.specs.Record.{Record}
-use Rattle.pcap_stream.specs.Source.{Stream}
-use Rattle.pcap_stream.specs.declared.fault.SourceFault.{SourceFault}
-use Rattle.overlay_settings.specs.declared.change.TimedChange.{TimedChange}
+use Rattle.pcap.specs.Record.{Record}
+use Rattle.pcap.specs.Source.{Stream}
+use Rattle.pcap.specs.declared.stream.fault.SourceFault.{SourceFault}
+use Rattle.overlay.specs.declared.settings.change.TimedChange.{TimedChange}
 use Rattle.timeline.specs.declared.event.Event.{Event}
 use Rattle.timeline.specs.declared.source.Source.TheVariants as sources
 use Rattle.timeline.specs.declared.source.Tap.{Tap}

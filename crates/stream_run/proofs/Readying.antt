@@ -4,14 +4,14 @@ use Rattle.std.specs.Prelude.{slice_get, IsSome}
 use Rattle.std.proofs.lemmas.Bool.{eqb-true, eqb-false}
 use Rattle.std.proofs.lemmas.List.{get_or-map, get_or-set_same, get_or-set_other, get_or_default, length-set, map-set, set-get_or}
 use Rattle.std.proofs.lemmas.Option.{get_or_from_slice_get, slice_get_within}
-use Rattle.pcap_io.specs.Record.{Record, last_moment}
-use Rattle.pcap_stream.specs.Source.{Standing, Stream, New, Open, Ended, Failed, lent}
-use Rattle.pcap_stream.specs.Supply.{GivesUp}
+use Rattle.pcap.specs.Record.{Record, last_moment}
+use Rattle.pcap.specs.Source.{Standing, Stream, New, Open, Ended, Failed, lent}
+use Rattle.pcap.specs.Supply.{GivesUp}
 use Rattle.timeline.specs.declared.event.Event.{Event}
 use Rattle.timeline.specs.declared.source.Tap.{Tap}
 use Rattle.timeline.specs.declared.source.Tap.TheVariants.{Port, Underlay}
-use Rattle.overlay_settings.specs.declared.change.Change.{Change}
-use Rattle.overlay_settings.specs.declared.change.TimedChange.{TimedChange}
+use Rattle.overlay.specs.declared.settings.change.Change.{Change}
+use Rattle.overlay.specs.declared.settings.change.TimedChange.{TimedChange}
 use Rattle.endpoint_core.specs.Step.{State}
 use Rattle.stream_run.specs.Amidst.{StepsInOrder}
 use Rattle.stream_run.specs.Fetched.{IsFetch, IsMoment, IsOpen}

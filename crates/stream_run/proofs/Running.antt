@@ -1,8 +1,8 @@
 -- Many events, one after another.
 use Rattle.std.proofs.Common.{◌≡◌, ◌≢◌, ◌∙◌, refl, sym, ap, subst, ℕ, ◌+◌, ◌-◌, ◌<◌, ◌≤◌, ◌⊎◌, Bool, true, false, slice_index_or, List, [], ◌∷◌, ◌++◌, length, map, arith, append_assoc, append-nil, None, Result, Ok, Err, length-append}
 use Rattle.std.specs.Prelude.{⊤}
-use Rattle.overlay_settings.specs.declared.change.Change.{Change}
-use Rattle.overlay_settings.specs.declared.change.TimedChange.{TimedChange}
+use Rattle.overlay.specs.declared.settings.change.Change.{Change}
+use Rattle.overlay.specs.declared.settings.change.TimedChange.{TimedChange}
 use Rattle.timeline.specs.Order.{IsRising, merged}
 use Rattle.timeline.specs.Words.{source_of}
 use Rattle.timeline.specs.declared.event.Event.{Event}
@@ -13,9 +13,9 @@ use Rattle.capture_run.specs.Outputs.{Outputs, event_of}
 use Rattle.capture_run.specs.Among.{with_event_among, with_events_among}
 use Rattle.capture_run.specs.declared.fault.RunFault.{RunFault}
 use Rattle.capture_run.specs.declared.fault.RunFault.TheVariants as faults
-use Rattle.pcap_stream.specs.Source.{Stream}
-use Rattle.pcap_stream.specs.declared.fault.SourceFault.TheVariants as source_
-use Rattle.pcap_io.specs.declared.record.RecordFault.{RecordFault}
+use Rattle.pcap.specs.Source.{Stream}
+use Rattle.pcap.specs.declared.stream.fault.SourceFault.TheVariants as source_
+use Rattle.pcap.specs.declared.text.record.RecordFault.{RecordFault}
 use Rattle.stream_run.specs.Amidst.{StandsInEvent}
 use Rattle.stream_run.specs.Coming.{coming, source_events}
 use Rattle.stream_run.specs.Read.{AreQuiet, GivesUpAt, failures_of}
@@ -38,8 +38,8 @@ use Rattle.timeline.specs.declared.source.Tap.{Tap}
 use Rattle.timeline.specs.declared.source.Tap.TheVariants.{Port, Underlay}
 use Rattle.std.proofs.lemmas.List.{get_or-map, length-map}
 use Rattle.std.specs.List.{FoldsTo}
-use Rattle.pcap_stream.specs.Counts.{GoesOnBy}
-use Rattle.pcap_stream.specs.Supply.{GivesUp, Supply}
+use Rattle.pcap.specs.Counts.{GoesOnBy}
+use Rattle.pcap.specs.Supply.{GivesUp, Supply}
 use Rattle.segment_set.specs.Segments.{Segments}
 
 -- events behind events

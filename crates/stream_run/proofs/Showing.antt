@@ -3,13 +3,13 @@ use Rattle.std.proofs.Common.{◌≡◌, ◌∙◌, refl, sym, ap, subst, ◌==�
 use Rattle.std.specs.List.{FoldsTo}
 use Rattle.std.specs.Prelude.{MatchBool}
 use Rattle.std.proofs.lemmas.Bool.{eqb-true}
-use Rattle.pcap_stream.specs.Source.{Stream}
+use Rattle.pcap.specs.Source.{Stream}
 use Rattle.timeline.specs.declared.event.Event.{Event}
 use Rattle.timeline.specs.declared.timeline.Cut.{Cut}
 use Rattle.overlay_config.specs.Fault.{Meaning}
-use Rattle.overlay_settings.specs.Settings.{Settings}
-use Rattle.overlay_settings.specs.declared.change.TimedChange.{TimedChange}
-use Rattle.endpoint_state.specs.Opened.{settings_told}
+use Rattle.overlay.specs.Settings.{Settings}
+use Rattle.overlay.specs.declared.settings.change.TimedChange.{TimedChange}
+use Rattle.endpoint_core.specs.Opened.{settings_told}
 use Rattle.endpoint_core.specs.Step.{State, opened}
 use Rattle.capture_run.specs.Writing.{empty_outputs, with_cuts}
 use Rattle.capture_run.specs.declared.fault.RunFault.{RunFault}

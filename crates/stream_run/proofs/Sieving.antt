@@ -1,8 +1,8 @@
 -- The next event, as a sieve takes it in or leaves it out.
 use Rattle.std.proofs.Common.{◌≡◌, ◌∙◌, refl, sym, ap, subst, ℕ, ◌+◌, Bool, true, false, if◌then◌else◌, List, ◌∷◌, length, arith, Some, Result, Ok, Err, inl, inr}
 use Rattle.std.specs.Prelude.{OnErr}
-use Rattle.pcap_stream.specs.Source.{Stream, lent}
-use Rattle.overlay_settings.specs.declared.change.TimedChange.{TimedChange}
+use Rattle.pcap.specs.Source.{Stream, lent}
+use Rattle.overlay.specs.declared.settings.change.TimedChange.{TimedChange}
 use Rattle.timeline.specs.declared.event.Event.{Event}
 use Rattle.timeline.specs.declared.source.Tap.{Tap}
 use Rattle.endpoint_core.specs.Step.{State, answer}

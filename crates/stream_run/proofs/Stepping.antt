@@ -1,8 +1,8 @@
 -- One event, and the fetch behind it.
 use Rattle.std.proofs.Common.{◌≡◌, ◌≤◌, ◌∙◌, refl, sym, ap, subst, ℕ, ◌+◌, Bool, true, false, List, length, ◌∷◌, slice_set, slice_index_or, arith, None, Result, Ok, Err}
-use Rattle.pcap_stream.specs.Source.{Stream}
-use Rattle.overlay_settings.specs.declared.change.Change.{Change}
-use Rattle.overlay_settings.specs.declared.change.TimedChange.{TimedChange}
+use Rattle.pcap.specs.Source.{Stream}
+use Rattle.overlay.specs.declared.settings.change.Change.{Change}
+use Rattle.overlay.specs.declared.settings.change.TimedChange.{TimedChange}
 use Rattle.timeline.specs.declared.event.Event.{Event}
 use Rattle.endpoint_core.specs.Step.{State}
 use Rattle.capture_run.specs.Outputs.{event_of}

@@ -3,10 +3,10 @@ use Rattle.std.proofs.Common.{◌≡◌, ◌≢◌, ◌∙◌, refl, sym, ap, su
 use Rattle.std.specs.Prelude.{⊤}
 use Rattle.std.proofs.lemmas.Bool.{eqb-true, eqb-false}
 use Rattle.std.proofs.lemmas.List.{length-replicate}
-use Rattle.pcap_stream.specs.Sink.{Drain, HandsOn, IsHandedOn}
-use Rattle.pcap_stream.specs.Source.{MatchRead, Stream}
-use Rattle.pcap_stream.specs.declared.fault.SourceFault.{SourceFault}
-use Rattle.pcap_stream.specs.declared.fault.SourceFault.TheVariants as source
+use Rattle.pcap.specs.Sink.{Drain, HandsOn, IsHandedOn}
+use Rattle.pcap.specs.Source.{MatchRead, Stream}
+use Rattle.pcap.specs.declared.stream.fault.SourceFault.{SourceFault}
+use Rattle.pcap.specs.declared.stream.fault.SourceFault.TheVariants as source
 use Rattle.timeline.specs.declared.source.Tap.{Tap}
 use Rattle.capture_run.specs.Writing.{empty_outputs}
 use Rattle.capture_run.specs.Outputs.{Outputs}

@@ -3,14 +3,14 @@ use Rattle.std.proofs.Common.{◌≡◌, ◌≢◌, ◌∙◌, refl, sym, ap, su
 use Rattle.std.specs.List.{cons_option, flat_map}
 use Rattle.std.specs.Option.{option_to_list}
 use Rattle.std.proofs.lemmas.List.{length-map}
-use Rattle.pcap_io.specs.Capture.{opened}
-use Rattle.pcap_io.specs.Next.{End, Whole, Cut, Faulty}
-use Rattle.pcap_io.specs.Reading.{Reading}
-use Rattle.pcap_io.specs.Record.{Record}
-use Rattle.pcap_io.specs.declared.header.CaptureFault.{CaptureFault}
-use Rattle.pcap_io.specs.declared.record.RecordFault.{RecordFault}
-use Rattle.pcap_stream.specs.Source.{Standing, Stream, after_end, ends_cut}
-use Rattle.overlay_settings.specs.declared.change.TimedChange.{TimedChange}
+use Rattle.pcap.specs.Capture.{opened}
+use Rattle.pcap.specs.Next.{End, Whole, Cut, Faulty}
+use Rattle.pcap.specs.Reading.{Reading}
+use Rattle.pcap.specs.Record.{Record}
+use Rattle.pcap.specs.declared.text.header.CaptureFault.{CaptureFault}
+use Rattle.pcap.specs.declared.text.record.RecordFault.{RecordFault}
+use Rattle.pcap.specs.Source.{Standing, Stream, after_end, ends_cut}
+use Rattle.overlay.specs.declared.settings.change.TimedChange.{TimedChange}
 use Rattle.timeline.specs.Events.{change_events, events_of}
 use Rattle.timeline.specs.Faults.{ended_by, faults_of, opening_faults, record_faults, refused_by}
 use Rattle.timeline.specs.Inputs.{inputs, inputs_from, opened_by, opened_captures}

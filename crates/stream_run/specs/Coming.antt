@@ -3,10 +3,10 @@
 --     coming      those that have not come yet, in order of moment
 --     records_among      how many of some events are records of a capture
 use Rattle.std.specs.Prelude.{◌≡◌, ◌==◌, ℕ, ◌+◌, Bool, true, false, if◌then◌else◌, List, [], ◌∷◌, ◌++◌, drop, map, Result, Ok, Err}
-use Rattle.pcap_io.specs.Capture.{opened}
-use Rattle.pcap_io.specs.Reading.{Reading}
-use Rattle.pcap_io.specs.declared.header.CaptureFault.{CaptureFault}
-use Rattle.overlay_settings.specs.declared.change.TimedChange.{TimedChange}
+use Rattle.pcap.specs.Capture.{opened}
+use Rattle.pcap.specs.Reading.{Reading}
+use Rattle.pcap.specs.declared.text.header.CaptureFault.{CaptureFault}
+use Rattle.overlay.specs.declared.settings.change.TimedChange.{TimedChange}
 use Rattle.timeline.specs.Events.{change_events, events_of}
 use Rattle.timeline.specs.Order.{merged}
 use Rattle.timeline.specs.Words.{source_of}

@@ -4,9 +4,9 @@
 --     IsDoneOver      by their octets
 use Rattle.std.specs.Prelude.{ℕ, List, Vec, Result, Ok}
 use Rattle.std.specs.declared.alloc.Global.{Global}
-use Rattle.pcap_stream.specs.Source.{Stream}
+use Rattle.pcap.specs.Source.{Stream}
 use Rattle.overlay_config.specs.Settings.{Settings}
-use Rattle.overlay_settings.specs.declared.change.TimedChange.{TimedChange}
+use Rattle.overlay.specs.declared.settings.change.TimedChange.{TimedChange}
 use Rattle.timeline.specs.declared.event.Event.{Event}
 use Rattle.endpoint_core.specs.Step.{State}
 use Rattle.segment_set.specs.Segments.{Segments}

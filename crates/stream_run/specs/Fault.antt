@@ -1,9 +1,9 @@
 -- The faults of a source as those of a run. It serves proofs.
 use Rattle.std.specs.Prelude.{ℕ}
-use Rattle.pcap_io.specs.declared.header.CaptureFault.TheVariants as capture
-use Rattle.pcap_io.specs.declared.record.RecordFault.TheVariants as record_
-use Rattle.pcap_stream.specs.declared.fault.SourceFault.{SourceFault}
-use Rattle.pcap_stream.specs.declared.fault.SourceFault.TheVariants as source
+use Rattle.pcap.specs.declared.text.header.CaptureFault.TheVariants as capture
+use Rattle.pcap.specs.declared.text.record.RecordFault.TheVariants as record_
+use Rattle.pcap.specs.declared.stream.fault.SourceFault.{SourceFault}
+use Rattle.pcap.specs.declared.stream.fault.SourceFault.TheVariants as source
 use Rattle.timeline.specs.declared.source.Tap.{Tap}
 use Rattle.capture_run.specs.declared.fault.RunFault.TheVariants as faults
 use Rattle.stream_run.specs.declared.fault.Halt.{Halt}

@@ -1,10 +1,10 @@
 -- One fetch of a source. It states no standard.
 use Rattle.std.specs.Prelude.{◌≡◌, ◌≤◌, ⊤, ℕ, ◌+◌, max, List, length, Option, Some, None, option_map, IfOk, Result, Ok, Err}
-use Rattle.pcap_io.specs.Record.{Record, last_moment}
-use Rattle.pcap_stream.specs.InTurn.{IsReading}
-use Rattle.pcap_stream.specs.Source.{Standing, Stream, Open, lent}
-use Rattle.pcap_stream.specs.Supply.{GivesUp}
-use Rattle.pcap_stream.specs.declared.fault.SourceFault.{SourceFault}
+use Rattle.pcap.specs.Record.{Record, last_moment}
+use Rattle.pcap.specs.InTurn.{IsReading}
+use Rattle.pcap.specs.Source.{Standing, Stream, Open, lent}
+use Rattle.pcap.specs.Supply.{GivesUp}
+use Rattle.pcap.specs.declared.stream.fault.SourceFault.{SourceFault}
 use Rattle.timeline.specs.Events.{greatest}
 use Rattle.timeline.specs.declared.source.Tap.{Tap}
 use Rattle.capture_run.specs.declared.fault.RunFault.TheVariants as faults

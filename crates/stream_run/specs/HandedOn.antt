@@ -5,7 +5,7 @@
 --     AsksSeldom      a law: how often that is asked for at most where so many octets more might find no room
 use Rattle.std.specs.Prelude.{◌≡◌, ◌≤◌, ◌+◌, ◌-◌, ◌*◌, ℕ, nat_le, true, if◌then◌else◌, List, [], ◌∷◌, length}
 use Rattle.std.specs.Io.KnownBytes.{Keeps}
-use Rattle.pcap_stream.specs.Block.{Block, HoldsBack, may_hold, must_hand_on, told}
+use Rattle.pcap.specs.Block.{Block, HoldsBack, may_hold, must_hand_on, told}
 
 -- these octets were written; what was held back was handed on before a read that may wait; or it was since so many octets more
 -- might find no room

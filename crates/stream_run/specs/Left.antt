@@ -1,15 +1,15 @@
 -- What a run over streams answers, and what it leaves: by one list of events for all its outputs; it serves the contract of the run.
 --     texts_of      the headers, the texts of what is taken in of some events, and the lines of cut captures
 --     Leaves      what stands in the outputs, by the answer
---     Answers      a whole run, by what its texts of settings and changes mean
+--     AnswersSieved      a whole run, by what its texts of settings and changes mean
 use Rattle.std.specs.Prelude.{◌≡◌, ◌⊎◌, ◌==◌, ◌+◌, List, [], ◌∷◌, ◌++◌, length, MatchBool, Result, Ok, Err}
-use Rattle.pcap_stream.specs.Source.{Stream}
+use Rattle.pcap.specs.Source.{Stream}
 use Rattle.timeline.specs.declared.event.Event.{Event}
 use Rattle.timeline.specs.declared.timeline.Cut.{Cut}
-use Rattle.overlay_settings.specs.declared.change.TimedChange.{TimedChange}
+use Rattle.overlay.specs.declared.settings.change.TimedChange.{TimedChange}
 use Rattle.overlay_config.specs.Fault.{Meaning}
-use Rattle.overlay_settings.specs.Settings.{Settings}
-use Rattle.endpoint_state.specs.Opened.{settings_told}
+use Rattle.overlay.specs.Settings.{Settings}
+use Rattle.endpoint_core.specs.Opened.{settings_told}
 use Rattle.endpoint_core.specs.Step.{State, opened}
 use Rattle.capture_run.specs.Fault.{of_changes, of_settings}
 use Rattle.capture_run.specs.Outputs.{Outputs}
@@ -18,12 +18,11 @@ use Rattle.capture_run.specs.declared.fault.RunFault.{RunFault}
 use Rattle.capture_run.specs.declared.fault.RunFault.TheVariants as faults
 use Rattle.stream_run.specs.Amidst.{StandsInEvent}
 use Rattle.stream_run.specs.Sights.{state_among}
-use Rattle.stream_run.specs.Sieved.{all_taken}
 use Rattle.stream_run.specs.Stage.{AreWell, Drains, FailedAt, StandAt, StandBetween, no_texts}
 use Rattle.stream_run.specs.Steps.{changes_of, most_events, texts_behind}
 use Rattle.stream_run.specs.declared.fault.StreamFault.{StreamFault}
 use Rattle.stream_run.specs.declared.fault.StreamFault.TheVariants as stream
-use Rattle.segment_set.specs.Segments.{Segments, All}
+use Rattle.segment_set.specs.Segments.{Segments}
 
 -- ---- the texts
 
@@ -91,14 +90,6 @@ AnswersSieved taken segments (Ok s) (Err fault) old new result = Refuses (of_cha
 AnswersSieved taken segments (Ok s) (Ok changes) old new result =
     MatchBool (length old.ports == length s.ports) (Leaves taken segments s changes old new result)
     (Refuses faults.PortCount old new result)
-
--- where each event is taken in
-abbrev pub AnswersAmong : Segments → Meaning Settings → Meaning (List TimedChange) → Ends → Ends → Result (Unit {0}) StreamFault → Type 0
-AnswersAmong segments s c old new result = AnswersSieved all_taken segments s c old new result
-
--- the same of the whole run
-abbrev pub Answers : Meaning Settings → Meaning (List TimedChange) → Ends → Ends → Result (Unit {0}) StreamFault → Type 0
-Answers s c old new result = AnswersAmong All s c old new result
 
 -- ---- where it begins
 

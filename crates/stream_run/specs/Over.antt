@@ -3,12 +3,12 @@
 --     IsRunOver      the answer of a run, and the texts that its outputs hold then
 use Rattle.std.specs.Prelude.{◌≡◌, ◌⊎◌, ◌≤◌, ⊤, ℕ, ◌+◌, List, [], ◌∷◌, ◌++◌, length, map, take, Vec, Some, Result, Ok, Err}
 use Rattle.std.specs.declared.alloc.Global.{Global}
-use Rattle.pcap_io.specs.declared.record.RecordFault.{RecordFault}
-use Rattle.pcap_stream.specs.Source.{Stream}
+use Rattle.pcap.specs.declared.text.record.RecordFault.{RecordFault}
+use Rattle.pcap.specs.Source.{Stream}
 use Rattle.overlay_config.specs.Fault.{Meaning}
 use Rattle.overlay_config.specs.Settings.{Settings}
-use Rattle.overlay_settings.specs.declared.change.TimedChange.{TimedChange}
-use Rattle.endpoint_state.specs.Opened.{settings_told}
+use Rattle.overlay.specs.declared.settings.change.TimedChange.{TimedChange}
+use Rattle.endpoint_core.specs.Opened.{settings_told}
 use Rattle.endpoint_core.specs.Step.{opened}
 use Rattle.timeline.specs.Events.{all_events}
 use Rattle.timeline.specs.Faults.{faults_of, opening_faults}
@@ -176,6 +176,18 @@ abbrev pub IsWholeRun : Meaning Settings → Meaning (List TimedChange) → List
     → Result (Unit {0}) StreamFault → Type 0
 IsWholeRun s c texts text old new (Ok x) = (found : Outputs) × (run s c texts text ≡ Ok found) × StandAt old new found
 IsWholeRun s c texts text old new (Err fault) = ⊤
+
+-- a law: where each event is taken in, a run of some segments leaves what a part of the run does
+abbrev pub LeavePart : Type 0
+LeavePart = (segments : Segments) (s : Meaning Settings) (c : Meaning (List TimedChange)) (texts : List (Vec ℕ Global)) (text : List ℕ)
+    (old new : Drains) (result : Result (Unit {0}) StreamFault)
+    → IsRunOverSieved all_taken segments s c texts text old new result → IsRunOverAmong segments s c texts text old new result
+
+-- a law: where they are all, it leaves what the whole run does
+abbrev pub LeaveWhole : Type 0
+LeaveWhole = (s : Meaning Settings) (c : Meaning (List TimedChange)) (texts : List (Vec ℕ Global)) (text : List ℕ)
+    (old new : Drains) (result : Result (Unit {0}) StreamFault) → IsRunOverSieved all_taken All s c texts text old new result
+    → IsRunOver s c texts text old new result × IsWholeRun s c texts text old new result
 
 -- ---- the begin
 

@@ -2,15 +2,14 @@
 --     ReachesOver      of each capture the records of these events were read, and one more
 use Rattle.std.specs.Prelude.{◌≡◌, ◌⊎◌, ⊤, ℕ, List, [], Vec, Result, Ok, Err}
 use Rattle.std.specs.declared.alloc.Global.{Global}
-use Rattle.pcap_stream.specs.Source.{Stream}
+use Rattle.pcap.specs.Source.{Stream}
 use Rattle.overlay_config.specs.Fault.{Meaning}
 use Rattle.overlay_config.specs.Settings.{Settings}
-use Rattle.overlay_settings.specs.declared.change.TimedChange.{TimedChange}
+use Rattle.overlay.specs.declared.settings.change.TimedChange.{TimedChange}
 use Rattle.capture_run.specs.declared.fault.RunFault.TheVariants as faults
 use Rattle.timeline.specs.declared.event.Event.{Event}
-use Rattle.segment_set.specs.Segments.{Segments, All}
+use Rattle.segment_set.specs.Segments.{Segments}
 use Rattle.stream_run.specs.Over.{LacksMemory, StandsAmong, StandsBefore, StandsSomewhere, texts_octets, whole_records}
-use Rattle.stream_run.specs.Sieved.{all_taken}
 use Rattle.stream_run.specs.Stage.{Drains, Events, Nothing, Stage, events_at}
 use Rattle.stream_run.specs.Steps.{AreReadBehind}
 use Rattle.stream_run.specs.declared.fault.StreamFault.{StreamFault}
@@ -54,14 +53,3 @@ IsReachedOverSieved taken segments (Ok s) (Ok changes) texts text old new ports 
     ReachesOver taken segments s changes texts text old new ports underlay result
 IsReachedOverSieved taken segments (Ok s) (Err fault) texts text old new ports underlay result = ⊤
 IsReachedOverSieved taken segments (Err fault) c texts text old new ports underlay result = ⊤
-
--- the same where each event is taken in
-abbrev pub IsReachedOverAmong : Segments → Meaning Settings → Meaning (List TimedChange) → List (Vec ℕ Global) → List ℕ → Drains
-    → Drains → List Stream → Stream → Result (Unit {0}) StreamFault → Type 0
-IsReachedOverAmong segments s c texts text old new ports underlay result =
-    IsReachedOverSieved all_taken segments s c texts text old new ports underlay result
-
--- the same of the whole run
-abbrev pub IsReachedOver : Meaning Settings → Meaning (List TimedChange) → List (Vec ℕ Global) → List ℕ → Drains → Drains
-    → List Stream → Stream → Result (Unit {0}) StreamFault → Type 0
-IsReachedOver s c texts text old new ports underlay result = IsReachedOverAmong All s c texts text old new ports underlay result

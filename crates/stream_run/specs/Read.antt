@@ -4,13 +4,13 @@
 --     ReadsWith      no read failed, or just one, where a source gave up
 use Rattle.std.specs.Prelude.{◌≡◌, ◌≢◌, ◌<◌, ◌≤◌, ℕ, ◌+◌, ◌-◌, max, List, [], ◌∷◌, ◌++◌}
 use Rattle.std.specs.Prelude.{length, map, slice_index_or, Option, Some, None, Result, Ok, Err}
-use Rattle.pcap_io.specs.Capture.{opened}
-use Rattle.pcap_io.specs.Next.{End, Faulty}
-use Rattle.pcap_io.specs.Record.{Record}
-use Rattle.pcap_io.specs.declared.record.RecordFault.{RecordFault}
-use Rattle.pcap_stream.specs.InTurn.{IsReading}
-use Rattle.pcap_stream.specs.Source.{Stream, after_end, lent}
-use Rattle.pcap_stream.specs.Supply.{GivesUp}
+use Rattle.pcap.specs.Capture.{opened}
+use Rattle.pcap.specs.Next.{End, Faulty}
+use Rattle.pcap.specs.Record.{Record}
+use Rattle.pcap.specs.declared.text.record.RecordFault.{RecordFault}
+use Rattle.pcap.specs.InTurn.{IsReading}
+use Rattle.pcap.specs.Source.{Stream, after_end, lent}
+use Rattle.pcap.specs.Supply.{GivesUp}
 use Rattle.timeline.specs.Events.{greatest}
 use Rattle.timeline.specs.declared.source.Tap.{Tap}
 use Rattle.timeline.specs.declared.source.Tap.TheVariants as taps

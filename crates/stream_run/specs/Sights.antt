@@ -4,15 +4,15 @@
 --     Sight      the same, and what the event is answered, or that it isn't told
 --     sights      those of events one after another
 use Rattle.std.specs.Prelude.{◌≡◌, ℕ, ◌+◌, ◌≤◌, if◌then◌else◌, List, [], ◌∷◌, length, Option, Some, None, Result}
-use Rattle.frame_view.specs.declared.reason.Refused.{Refused}
-use Rattle.overlay_settings.specs.declared.change.Change.{Change}
+use Rattle.wire.specs.declared.ether.reason.Refused.{Refused}
+use Rattle.overlay.specs.declared.settings.change.Change.{Change}
 use Rattle.timeline.specs.declared.event.Event.{Event}
 use Rattle.timeline.specs.declared.event.Happening.{Happening}
 use Rattle.timeline.specs.declared.event.Happening.TheVariants as happenings
 use Rattle.timeline.specs.declared.source.Tap.TheVariants.{Port, Underlay}
-use Rattle.endpoint_state.specs.Settings.{Settings}
+use Rattle.endpoint_core.specs.Settings.{Settings}
 use Rattle.endpoint_core.specs.Arrival.{came_at, came_by}
-use Rattle.endpoint_core.specs.Came.{Came}
+use Rattle.endpoint_core.specs.Arrival.{Arrival}
 use Rattle.endpoint_core.specs.Step.{Answer, State, answer}
 use Rattle.capture_run.specs.Outputs.{event_of}
 use Rattle.endpoint_core.specs.Among.{after_among, is_told}
@@ -31,7 +31,7 @@ abbrev pub due : State → ℕ → Event → Due
 due state number event = record { state = state; number = number; event = event }
 
 -- what an event brings: of a frame at a port and a packet at the underlay what comes to a segment, or why nothing does
-abbrev pub IsBrought : Settings → Happening → Result Came Refused → Type 0
+abbrev pub IsBrought : Settings → Happening → Result Arrival Refused → Type 0
 IsBrought S (happenings.Change index) came = Unit {0}
 IsBrought S (happenings.Record (Port port) captured) came =
     (1 ≤ port) × (port ≤ length S.ports.ports) × (came ≡ came_at S.ports S.overlay port captured.original captured.octets)

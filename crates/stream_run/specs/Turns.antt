@@ -1,7 +1,7 @@
 -- Whose event comes next. It states no standard.
 --     Turn      where a source of events stands: how many of its events came, and the moment of the next one
 use Rattle.std.specs.Prelude.{◌≡◌, ◌<◌, ◌≤◌, ◌-◌, ◌^◌, ◌⊎◌, ⊤, ℕ, List, slice_index_or, Option, Some, None}
-use Rattle.pcap_io.specs.Record.{last_moment}
+use Rattle.pcap.specs.Record.{last_moment}
 use Rattle.stream_run.specs.declared.turn.First.{First}
 use Rattle.stream_run.specs.declared.turn.Turn.{Turn}
 

@@ -6,13 +6,13 @@
 --     LeaveTheSame      whatever was held back on the way, the same stands at the end
 use Rattle.std.specs.Prelude.{◌≡◌, ◌<◌, ⊤, ℕ, Bool, true, false, List, [], length, slice_index_or, Vec, Result, Ok, Err}
 use Rattle.std.specs.declared.alloc.Global.{Global}
-use Rattle.pcap_stream.specs.Sink.{Drain}
-use Rattle.pcap_stream.specs.Source.{Stream, holds_next}
-use Rattle.pcap_stream.specs.declared.fault.SourceFault.TheVariants as source
+use Rattle.pcap.specs.Sink.{Drain}
+use Rattle.pcap.specs.Source.{Stream, holds_next}
+use Rattle.pcap.specs.declared.stream.fault.SourceFault.TheVariants as source
 use Rattle.timeline.specs.declared.source.Tap.{Tap}
 use Rattle.overlay_config.specs.Fault.{Meaning}
 use Rattle.overlay_config.specs.Settings.{Settings}
-use Rattle.overlay_settings.specs.declared.change.TimedChange.{TimedChange}
+use Rattle.overlay.specs.declared.settings.change.TimedChange.{TimedChange}
 use Rattle.capture_run.specs.Outputs.{Outputs}
 use Rattle.stream_run.specs.Over.{IsWholeRun}
 use Rattle.stream_run.specs.Stage.{Drains, StandAt}

@@ -1,17 +1,17 @@
 -- What a run over streams shows to whoever looks on; it serves the contract of the run.
 --     IsWatchedTake, IsSieved, IsWatchedStep, IsPut, IsWatchedRun, IsSievedRun      each event that is taken in is seen,
 -- taken, and its answer heard, where it is told
---     IsShown      a whole run: the events of which the outputs hold texts, and the end
---     IsWatchedOver      the same by the octets of its captures: all events and the end, or the first events
+--     IsShownSieved      a whole run: the events of which the outputs hold texts, and the end
+--     IsWatchedOverSieved      the same by the octets of its captures: all events and the end, or the first events
 use Rattle.std.specs.Prelude.{◌≡◌, ◌≢◌, ◌⊎◌, ◌==◌, ⊤, ℕ, ◌+◌, Bool, true, List, [], ◌∷◌, ◌++◌}
 use Rattle.std.specs.Prelude.{length, MatchBool, OnErr, slice_index_or, Vec, Result, Ok, Err}
 use Rattle.std.specs.List.{FoldsTo}
 use Rattle.std.specs.declared.alloc.Global.{Global}
-use Rattle.pcap_stream.specs.Source.{Stream}
+use Rattle.pcap.specs.Source.{Stream}
 use Rattle.overlay_config.specs.Fault.{Meaning}
 use Rattle.overlay_config.specs.Settings.{Settings}
-use Rattle.overlay_settings.specs.declared.change.TimedChange.{TimedChange}
-use Rattle.endpoint_state.specs.Opened.{settings_told}
+use Rattle.overlay.specs.declared.settings.change.TimedChange.{TimedChange}
+use Rattle.endpoint_core.specs.Opened.{settings_told}
 use Rattle.timeline.specs.declared.event.Event.{Event}
 use Rattle.timeline.specs.declared.timeline.Cut.{Cut}
 use Rattle.timeline.specs.declared.source.Tap.{Tap}
@@ -23,7 +23,7 @@ use Rattle.stream_run.specs.Amidst.{PutsInOrder}
 use Rattle.stream_run.specs.Left.{texts_of}
 use Rattle.stream_run.specs.Over.{LacksMemory, StandsAmong, StandsBefore, StandsSomewhere, whole_records}
 use Rattle.stream_run.specs.Sights.{Sight, sight_among, sights, state_among}
-use Rattle.stream_run.specs.Sieved.{all_taken, kept}
+use Rattle.stream_run.specs.Sieved.{kept}
 use Rattle.stream_run.specs.Stage.{Drains, Events, Lead, Stage, StandAt, StandBetween, events_at, no_texts}
 use Rattle.stream_run.specs.Steps.{IsAt, IsNextEvent, IsRunOn, IsStep, IsTaken, Run, changes_of}
 use Rattle.stream_run.specs.Fault.{stopped}
@@ -33,7 +33,7 @@ use Rattle.stream_run.specs.declared.fault.StreamFault.TheVariants as stream
 use Rattle.stream_run.specs.declared.fault.Target.{Target}
 use Rattle.stream_run.specs.declared.turn.First.{First}
 use Rattle.stream_run.specs.declared.turn.Turn.{Turn}
-use Rattle.segment_set.specs.Segments.{Segments, All}
+use Rattle.segment_set.specs.Segments.{Segments}
 
 -- how an endpoint stands behind some events
 abbrev pub state_behind : Segments → List TimedChange → State → List Event → State
@@ -152,13 +152,6 @@ module _ (taken : List Event → List Event) (segments : Segments) {T : Type 0} 
   IsShownSieved (Ok s) (Err fault) ports old new old_watch new_watch result = new_watch ≡ old_watch
   IsShownSieved (Err fault) c ports old new old_watch new_watch result = new_watch ≡ old_watch
 
-module _ (segments : Segments) {T : Type 0} (sees : T → Sight → T → Type 0) (ends : T → State → T → Type 0) where
-  -- where each event is taken in
-  abbrev pub IsShownAmong : Meaning Settings → Meaning (List TimedChange) → List Stream → Drains → Drains → T → T
-      → Result (Unit {0}) StreamFault → Type 0
-  IsShownAmong s c ports old new old_watch new_watch result =
-      IsShownSieved all_taken segments sees ends s c ports old new old_watch new_watch result
-
 -- ---- the same by the octets of the captures
 
 -- the sights of the events of a stage
@@ -198,29 +191,8 @@ module _ (taken : List Event → List Event) (segments : Segments) {T : Type 0} 
   IsWatchedOverSieved (Ok s) (Err fault) texts text old new old_watch new_watch result = new_watch ≡ old_watch
   IsWatchedOverSieved (Err fault) c texts text old new old_watch new_watch result = new_watch ≡ old_watch
 
-module _ (segments : Segments) {T : Type 0} (sees : T → Sight → T → Type 0) (ends : T → State → T → Type 0) where
-  -- where each event is taken in
-  abbrev pub IsWatchedOverAmong : Meaning Settings → Meaning (List TimedChange) → List (Vec ℕ Global) → List ℕ → Drains → Drains
-      → T → T → Result (Unit {0}) StreamFault → Type 0
-  IsWatchedOverAmong s c texts text old new old_watch new_watch result =
-      IsWatchedOverSieved all_taken segments sees ends s c texts text old new old_watch new_watch result
-
 module _ {S : Type 0} (goes : S → Event → S → Type 0) where
   -- a sieve at the end of a run: it was asked about each event, in order; where the run stops at a fault, nothing is said of it
   abbrev pub GoesOver : Meaning (List TimedChange) → List (Vec ℕ Global) → List ℕ → S → S → Result (Unit {0}) StreamFault → Type 0
   GoesOver (Ok changes) texts text old new (Ok x) = FoldsTo goes old (whole_records changes texts text).events new
   GoesOver c texts text old new result = ⊤
-
--- ---- the whole run
-
-module _ {T : Type 0} (sees : T → Sight → T → Type 0) (ends : T → State → T → Type 0) where
-  -- all segments are asked for, so each event is seen
-  abbrev pub IsShown : Meaning Settings → Meaning (List TimedChange) → List Stream → Drains → Drains → T → T
-      → Result (Unit {0}) StreamFault → Type 0
-  IsShown s c ports old new old_watch new_watch result = IsShownAmong All sees ends s c ports old new old_watch new_watch result
-
-  -- by the octets of the captures
-  abbrev pub IsWatchedOver : Meaning Settings → Meaning (List TimedChange) → List (Vec ℕ Global) → List ℕ → Drains → Drains → T
-      → T → Result (Unit {0}) StreamFault → Type 0
-  IsWatchedOver s c texts text old new old_watch new_watch result =
-      IsWatchedOverAmong All sees ends s c texts text old new old_watch new_watch result

@@ -2,7 +2,7 @@
 ghost use Rattle.std.specs.Prelude.{◌≡◌, ◌≤◌, ◌<◌, ◌+◌, ◌++◌, ◌^◌, ℕ, List, [], length, slice_index_or, slice_set, true, IfOk, OnOk};
 ghost use Rattle.timeline.specs.declared.source.Tap.{Tap as ATap};
 ghost use Rattle.endpoint_core.specs.Step.{State};
-ghost use Rattle.pcap_io.specs.Written.{written_header};
+ghost use Rattle.pcap.specs.Written.{written_header};
 ghost use Rattle.capture_run.specs.Outputs.{Outputs as Texts};
 ghost use Rattle.capture_run.specs.Writing.{empty_outputs};
 ghost use Rattle.stream_run.specs.Begun.{AreAtFirst, OnlyReads, first_turns};
@@ -20,7 +20,7 @@ use crate::hand_on::hand_on_all;
 use crate::outputs::Outputs;
 use crate::turn::{Turn, Upcoming};
 use overlay_config::TimedChange;
-use pcap_stream::{Input, Output};
+use pcap::stream::{Input, Output};
 use std::alloc::{AllocError, Global};
 
 /// Writes the header of the capture of the port with this index, from 0.

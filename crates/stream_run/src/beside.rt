@@ -1,6 +1,6 @@
 //! Whoever looks on, and another beside.
 use crate::watch::Watch;
-use endpoint_core::{ChangeFault, Course, Endpoint};
+use endpoint_core::{ChangeFault, Endpoint, Forwarding};
 use filter_db::Place;
 use timeline::Event;
 
@@ -20,17 +20,17 @@ impl<T: Watch, O: Watch> Watch for Beside<T, O> {
 
     ghost ends = { λ old state new. T.ends old.watch state new.watch × WhereWanted (λ x y. O.ends x state y) old.other new.other };
 
-    fn see(&mut self, endpoint: &Endpoint, number: u64, event: &Event, came: &Course) {
+    fn see(&mut self, endpoint: &Endpoint, number: u64, event: &Event, came: &Forwarding) {
         self.watch.see(endpoint, number, event, came);
         if let Some(other) = &mut self.other {
             other.see(endpoint, number, event, came);
         }
     }
 
-    fn hear_decision(&mut self, endpoint: &Endpoint, course: &Course, places: &[Place]) {
-        self.watch.hear_decision(endpoint, course, places);
+    fn hear_decision(&mut self, endpoint: &Endpoint, forwarding: &Forwarding, places: &[Place]) {
+        self.watch.hear_decision(endpoint, forwarding, places);
         if let Some(other) = &mut self.other {
-            other.hear_decision(endpoint, course, places);
+            other.hear_decision(endpoint, forwarding, places);
         }
     }
 

@@ -1,5 +1,5 @@
 //! What a run reads.
-use pcap_stream::{Input, Source};
+use pcap::stream::{Input, Source};
 
 /// The captures that a run reads: those of the ports, that of port 1 first, and that of the underlay.
 #[derive(Drop)]

@@ -13,7 +13,7 @@ use crate::outputs::Outputs;
 use crate::put::put_line;
 use crate::turn::Turn;
 use decision_lines::Line;
-use pcap_stream::{Input, Output, Source};
+use pcap::stream::{Input, Output, Source};
 use segment_set::SegmentSet;
 use timeline::{Cut, Tap};
 

@@ -4,8 +4,8 @@ ghost use Rattle.stream_run.specs.Fault.{fault_of, stopped};
 ghost use Rattle.stream_run.specs.Words.{target_word};
 
 use capture_run::RunFault;
-use pcap_io::{CaptureFault, RecordFault};
-use pcap_stream::SourceFault;
+use pcap::stream::SourceFault;
+use pcap::text::{CaptureFault, RecordFault};
 use std::fmt;
 use thiserror::Error;
 use timeline::Tap;

@@ -1,6 +1,6 @@
 //! The next record of a source.
 ghost use Rattle.std.specs.Prelude.{◌≡◌, ◌≢◌, ◌≤◌, ◌+◌, ⊤, ℕ, false, length, not};
-ghost use Rattle.pcap_stream.specs.Source.{MatchRead, holds_next};
+ghost use Rattle.pcap.specs.Source.{MatchRead, holds_next};
 ghost use Rattle.timeline.specs.declared.source.Tap.{Tap as ATap};
 ghost use Rattle.stream_run.specs.Fetched.{IsFetch, IsOpen, fetched};
 ghost use Rattle.stream_run.specs.Steps.{FetchesFrom, IsAt, moment_at, source_at};
@@ -9,7 +9,7 @@ ghost use Rattle.stream_run.specs.Waiting.{IsOutBefore, TakesRead};
 use crate::captures::Captures;
 use crate::outputs::Outputs;
 use overlay_config::TimedChange;
-use pcap_stream::{Input, Output, Source, SourceFault};
+use pcap::stream::{Input, Output, Source, SourceFault};
 use timeline::Tap;
 
 /// Fetches the next record of a capture, the latest of those that came at this moment, and sets when it comes, if there is one.

@@ -11,9 +11,9 @@
 //! Where events may be left out, all goes on behind each that is taken in, since behind one that is left out a write that fails
 //! could not be told as its own.
 ghost use Rattle.std.specs.Prelude.{◌≡◌, ◌≢◌, ◌≤◌, ◌<◌, ◌+◌, ◌^◌, ℕ, [], false, not, true, IsSome, OnOk, Some, length, slice_index_or};
-ghost use Rattle.pcap_io.specs.Record.{last_moment};
-ghost use Rattle.pcap_stream.specs.Sink.{Drain};
-ghost use Rattle.pcap_stream.specs.Source.{holds_next, lent};
+ghost use Rattle.pcap.specs.Record.{last_moment};
+ghost use Rattle.pcap.specs.Sink.{Drain};
+ghost use Rattle.pcap.specs.Source.{holds_next, lent};
 ghost use Rattle.timeline.specs.declared.source.Tap.{Tap as ATap};
 ghost use Rattle.endpoint_core.specs.Kept.{state_of};
 ghost use Rattle.capture_run.specs.Outputs.{Outputs as Texts};
@@ -29,7 +29,7 @@ use crate::outputs::Outputs;
 use crate::part::{Next, Part, Taker};
 use crate::take::take_at;
 use crate::watch::Watch;
-use pcap_stream::{Input, Output};
+use pcap::stream::{Input, Output};
 
 /// How many ports a run has at most.
 const MOST_PORTS: usize = 255;
@@ -165,10 +165,10 @@ pub fn take_and_hand_on<R: Input, W: Output, T: Watch>(
     requires lent { (place : ATap) → IsAt (length captures.now.ports.items) next.index place
         → IsSome (lent (source_at captures.now.ports.items captures.now.underlay place).standing) }
     ensures taken { IsWatchedTake part.now.segments.now T.sees part.now.changes.now captures.now.ports.items
-        captures.now.underlay next.index next.done next.moment taker.old.desk.number (state_of taker.old.endpoint)
+        captures.now.underlay next.index next.done next.moment taker.old.scratch.number (state_of taker.old.endpoint)
         (state_of taker.new.endpoint)
         outputs.old outputs.new watch.old watch.new result }
-    ensures number { taker.new.desk.number ≡ taker.old.desk.number }
+    ensures number { taker.new.scratch.number ≡ taker.old.scratch.number }
     ensures before { OnOk result (IsOutBefore captures.now.may_wait captures.now.ports.items captures.now.underlay next.index outputs.new) }
     ensures behind { OnOk result (IsOutOrAll takes_all captures.now.may_wait outputs.new) }
 {

@@ -1,7 +1,7 @@
 //! The next event, as a sieve takes it in or leaves it out.
 ghost use Rattle.std.specs.Prelude.{◌≡◌, ◌≤◌, ◌<◌, ◌+◌, ◌^◌, IsSome, OnOk, Some, length};
-ghost use Rattle.pcap_io.specs.Record.{Record as ARecord, last_moment};
-ghost use Rattle.pcap_stream.specs.Source.{lent};
+ghost use Rattle.pcap.specs.Record.{Record as ARecord, last_moment};
+ghost use Rattle.pcap.specs.Source.{lent};
 ghost use Rattle.timeline.specs.declared.source.Tap.{Tap as ATap};
 ghost use Rattle.endpoint_core.specs.Kept.{state_of};
 ghost use Rattle.stream_run.specs.Steps.{IsAt, IsNextEvent, moment_at, record_event, source_at};
@@ -15,7 +15,7 @@ use crate::outputs::Outputs;
 use crate::part::{Next, Part, Taker};
 use crate::sieve::Sieve;
 use crate::watch::Watch;
-use pcap_stream::{Input, Output, Source};
+use pcap::stream::{Input, Output, Source};
 use timeline::{Captured, Event, Happening, Tap};
 
 /// The event of the record that a source lends.
@@ -77,7 +77,7 @@ pub fn let_in<R: Input, W: Output, S: Sieve, T: Watch>(
     requires time { (state_of taker.old.endpoint).moment ≤ next.moment }
     requires moment { next.moment ≤ last_moment }
     requires count { next.done + 1 < 2 ^ 64 }
-    requires numbers { taker.old.desk.number + 1 < 2 ^ 64 }
+    requires numbers { taker.old.scratch.number + 1 < 2 ^ 64 }
     requires index { next.index ≤ length captures.now.ports.items + 1 }
     requires few { length captures.now.ports.items ≤ 255 }
     requires known { length captures.now.ports.items ≡ length (state_of taker.old.endpoint).bridges.settings.ports.ports }
@@ -88,14 +88,14 @@ pub fn let_in<R: Input, W: Output, S: Sieve, T: Watch>(
     ensures before { OnOk result (IsOutBefore captures.now.may_wait captures.now.ports.items captures.now.underlay next.index outputs.new) }
     ensures behind { OnOk result (IsOutOrAll (S.all sieve.new) captures.now.may_wait outputs.new) }
     ensures sieved { IsSieved part.now.segments.now S.taken S.goes T.sees part.now.changes.now captures.now.ports.items
-        captures.now.underlay next.index next.done next.moment taker.old.desk.number taker.new.desk.number
+        captures.now.underlay next.index next.done next.moment taker.old.scratch.number taker.new.scratch.number
         (state_of taker.old.endpoint) (state_of taker.new.endpoint) outputs.old outputs.new sieve.old sieve.new watch.old watch.new result }
 {
     let event = next_event(captures, next);
     if !sieve.takes(&event) {
         return Ok(());
     }
-    taker.desk.number.add_one();
+    taker.scratch.number.add_one();
     let takes_all = sieve.takes_all();
     take_and_hand_on(part, captures, outputs, taker, next, takes_all, watch)
 }

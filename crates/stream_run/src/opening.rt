@@ -3,7 +3,7 @@
 //! All are opened, ports rising and then the underlay, before the first record of each is read in the same order: so a capture
 //! that can't be opened is named before a faulty record of an earlier one.
 ghost use Rattle.std.specs.Prelude.{◌≡◌, ◌≤◌, ◌+◌, OnOk, All, length};
-ghost use Rattle.pcap_stream.specs.Source.{New};
+ghost use Rattle.pcap.specs.Source.{New};
 ghost use Rattle.timeline.specs.declared.source.Tap.{Tap as ATap};
 ghost use Rattle.stream_run.specs.Begun.{IsUnread, OpensAt, OpensInTurn, TellsHeader};
 ghost use Rattle.stream_run.specs.Fetched.{IsOpen, ReadsOne};
@@ -12,7 +12,7 @@ ghost use Rattle.stream_run.specs.Steps.{IsAt, source_at};
 
 use crate::captures::Captures;
 use crate::fault::{StreamFault, fault_at};
-use pcap_stream::{Input, Source};
+use pcap::stream::{Input, Source};
 use timeline::Tap;
 
 /// Opens a capture: it reads its global header.

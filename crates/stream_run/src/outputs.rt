@@ -1,5 +1,5 @@
 //! What a run writes.
-use pcap_stream::{Output, Sink};
+use pcap::stream::{Output, Sink};
 use std::marker::Model;
 
 /// Where a run writes: the captures of the ports, that of port 1 first, the capture of the underlay, and the decision lines.

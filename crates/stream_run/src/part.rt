@@ -1,6 +1,6 @@
 //! What the steps of a run are lent.
 use crate::turn::First;
-use decision_lines::Desk;
+use decision_lines::Scratch;
 use endpoint_core::Endpoint;
 use overlay_config::TimedChange;
 use segment_set::SegmentSet;
@@ -30,11 +30,11 @@ pub struct Next {
     pub done: u64,
 }
 
-/// Who takes the events of a run: the endpoint, and the desk at which its decisions are written.
+/// Who takes the events of a run: the endpoint, and the scratch at which its decisions are written.
 #[derive(Drop)]
 pub struct Taker {
     pub endpoint: Endpoint,
-    pub desk: Desk,
+    pub scratch: Scratch,
     /// How many octets the line of an event may have, by the ports and by the limit of flood lists, which no change changes.
     pub most_of_a_line: usize,
 }

@@ -2,12 +2,12 @@
 ghost use Rattle.std.specs.Prelude.{◌≡◌, ◌≤◌, ◌<◌, ◌+◌, ◌++◌, Option, Some, None, [], Bool};
 ghost use Rattle.std.specs.Prelude.{IsSome, IsTrue, OnOk, length, map, slice_index_or, unwrap_or};
 ghost use Rattle.std.specs.List.{list_all};
-ghost use Rattle.pcap_io.specs.Record.{last_moment, longest};
-ghost use Rattle.pcap_io.specs.Written.{whole_frame, written_record};
+ghost use Rattle.pcap.specs.Record.{last_moment, longest};
+ghost use Rattle.pcap.specs.Written.{whole_frame, written_record};
 ghost use Rattle.filter_db.specs.declared.place.Place.TheVariants.{Local, Remote};
-ghost use Rattle.endpoint_state.specs.Settings.{segment_at};
-ghost use Rattle.endpoint_state.specs.Step.{can_leave};
-ghost use Rattle.endpoint_core.specs.Course.{CanLeave, IsShortFrame, IsThere, decision_of};
+ghost use Rattle.endpoint_core.specs.Settings.{segment_at};
+ghost use Rattle.endpoint_core.specs.StateStep.{can_leave};
+ghost use Rattle.endpoint_core.specs.Forwarding.{CanLeave, IsShortFrame, IsThere, decision_of};
 ghost use Rattle.endpoint_core.specs.Decision.{Sent};
 ghost use Rattle.endpoint_core.specs.Kept.{state_of};
 ghost use Rattle.endpoint_core.specs.Step.{Decided, has_two_tunnels, sent_at};
@@ -21,19 +21,19 @@ ghost use Rattle.stream_run.specs.Stage.{Drains, Lead, StandAt};
 
 use crate::fault::Target;
 use crate::outputs::Outputs;
-use decision_lines::{Desk, Line};
+use decision_lines::{Line, Scratch};
 use encapsulate::Head;
-use endpoint_core::{Came, Course, Endpoint};
+use endpoint_core::{Arrival, Endpoint, Forwarding};
 use filter_db::Place;
-use ip_udp_view::{Addr, Tunnel};
-use pcap_stream::Output;
+use pcap::stream::Output;
 use timeline::Event;
+use wire::ip_udp::{Addr, Tunnel};
 
 /// A frame that leaves: the endpoint that took it, and when.
 #[derive(Clone, Copy)]
 struct Leaving<'a> {
     endpoint: &'a Endpoint,
-    came: &'a Came<'a>,
+    came: &'a Arrival<'a>,
     moment: u64,
 }
 
@@ -278,27 +278,29 @@ pub fn put_line<W: Output>(outputs: &mut Outputs<W>, line: &[u8]) -> Result<(), 
 fn put_forwarded<W: Output>(
     outputs: &mut Outputs<W>,
     endpoint: &Endpoint,
-    desk: &mut Desk,
+    scratch: &mut Scratch,
     event: &Event,
-    came: &Came,
+    came: &Arrival,
 ) -> Result<(), Target>
     requires moment { event.now.moment ≤ last_moment }
     requires there { IsSome (segment_at (state_of endpoint.now).bridges.settings came.now.vid) }
-    requires leave { IsTrue (list_all (can_leave (state_of endpoint.now).bridges.settings came.now.vid) desk.old.places.items) }
+    requires leave { IsTrue (list_all (can_leave (state_of endpoint.now).bridges.settings came.now.vid) scratch.old.places.items) }
     requires short { length came.now.frame.body ≤ 65549 }
     ensures outputs { let S = (state_of endpoint.now).bridges.settings in
         (start : Drains) (o : Texts) → StandAt start outputs.old o
         → Lead start outputs.new o
-        (with_input desk.old.number None o event.now
+        (with_input scratch.old.number None o event.now
         (Decided (Rattle.endpoint_core.specs.Step.by_verdict S came.now
-        (Rattle.std.specs.Prelude.Ok desk.old.places.items)))) result }
+        (Rattle.std.specs.Prelude.Ok scratch.old.places.items)))) result }
     ensures order { let S = (state_of endpoint.now).bridges.settings in
         (start : Drains) (o : Texts) → StandAt start outputs.old o
-        → PutsInOrder start outputs.new desk.old.number None o event.now
-        (Decided (Rattle.endpoint_core.specs.Step.by_verdict S came.now (Rattle.std.specs.Prelude.Ok desk.old.places.items))) result }
-    ensures number { desk.new.number ≡ desk.old.number }
+        → PutsInOrder start outputs.new scratch.old.number None o event.now
+        (Decided (Rattle.endpoint_core.specs.Step.by_verdict S came.now (Rattle.std.specs.Prelude.Ok scratch.old.places.items))) result }
+    ensures number { scratch.new.number ≡ scratch.old.number }
 {
-    desk.line.begin(&desk.number, event, Some(came.segment()));
+    scratch
+        .line
+        .begin(&scratch.number, event, Some(came.segment()));
     let leaving = Leaving {
         endpoint,
         came,
@@ -307,43 +309,43 @@ fn put_forwarded<W: Output>(
     if let Err(target) = put_places(
         outputs,
         &leaving,
-        desk.places.as_slice(),
-        &mut desk.head,
-        &mut desk.line,
+        scratch.places.as_slice(),
+        &mut scratch.head,
+        &mut scratch.line,
     ) {
         return Err(target);
     }
-    desk.line.end();
-    put_line(outputs, desk.line.text())
+    scratch.line.end();
+    put_line(outputs, scratch.line.text())
 }
 
 /// Puts what comes of a frame or a packet that the endpoint took just now: its emissions in order of outlets, and then
 /// the event's line.
-pub fn put_course<W: Output>(
+pub fn put_forwarding<W: Output>(
     outputs: &mut Outputs<W>,
     endpoint: &Endpoint,
-    desk: &mut Desk,
+    scratch: &mut Scratch,
     event: &Event,
-    course: &Course,
+    forwarding: &Forwarding,
 ) -> Result<(), Target>
     requires moment { event.now.moment ≤ last_moment }
-    requires there { IsThere (state_of endpoint.now).bridges.settings course.now }
-    requires short { IsShortFrame course.now }
-    requires leave { CanLeave (state_of endpoint.now).bridges.settings course.now desk.old.places.items }
+    requires there { IsThere (state_of endpoint.now).bridges.settings forwarding.now }
+    requires short { IsShortFrame forwarding.now }
+    requires leave { CanLeave (state_of endpoint.now).bridges.settings forwarding.now scratch.old.places.items }
     ensures outputs { (start : Drains) (o : Texts) → StandAt start outputs.old o
         → Lead start outputs.new o
-        (with_input desk.old.number None o event.now
-        (Decided (decision_of (state_of endpoint.now).bridges.settings course.now desk.old.places.items))) result }
+        (with_input scratch.old.number None o event.now
+        (Decided (decision_of (state_of endpoint.now).bridges.settings forwarding.now scratch.old.places.items))) result }
     ensures order { (start : Drains) (o : Texts) → StandAt start outputs.old o
-        → PutsInOrder start outputs.new desk.old.number None o event.now
-        (Decided (decision_of (state_of endpoint.now).bridges.settings course.now desk.old.places.items)) result }
-    ensures number { desk.new.number ≡ desk.old.number }
+        → PutsInOrder start outputs.new scratch.old.number None o event.now
+        (Decided (decision_of (state_of endpoint.now).bridges.settings forwarding.now scratch.old.places.items)) result }
+    ensures number { scratch.new.number ≡ scratch.old.number }
 {
-    match course {
+    match forwarding {
         Err(refused) => {
-            desk.line.write_drop(&desk.number, event, *refused);
-            put_line(outputs, desk.line.text())
+            scratch.line.write_drop(&scratch.number, event, *refused);
+            put_line(outputs, scratch.line.text())
         }
-        Ok(came) => put_forwarded(outputs, endpoint, desk, event, came),
+        Ok(came) => put_forwarded(outputs, endpoint, scratch, event, came),
     }
 }

@@ -20,7 +20,7 @@ use crate::sieve::Sieve;
 use crate::turn::{Turn, Upcoming};
 use crate::watch::Watch;
 use capture_run::RunFault;
-use pcap_stream::{Input, Output};
+use pcap::stream::{Input, Output};
 
 /// Puts the event that comes first through the endpoint, where the sieve takes it in, and shows it before, as passed over where
 /// it isn't told to the part's segments; and fetches the next one of its source.
@@ -33,18 +33,18 @@ fn put_first<R: Input, W: Output, S: Sieve, T: Watch>(
     sieve: &mut S,
     watch: &mut T,
 ) -> Result<(), Halt>
-    requires few { taker.old.desk.number + 2 < 2 ^ 64 }
+    requires few { taker.old.scratch.number + 2 < 2 ^ 64 }
     requires first { IsFirst turns.old (length turns.old) coming.first }
     requires ready { AreReady coming.part.now.changes.now (2 ^ 64 - 3)
-        (run_at captures.old.ports.items captures.old.underlay turns.old (state_of taker.old.endpoint) taker.old.desk.number
+        (run_at captures.old.ports.items captures.old.underlay turns.old (state_of taker.old.endpoint) taker.old.scratch.number
         outputs.old) }
     requires out { IsOutOrAll (S.all sieve.old) captures.old.may_wait outputs.old }
     ensures out { OnOk result (IsOutOrAll (S.all sieve.new) captures.new.may_wait outputs.new) }
     ensures waits { IsOutAtHalt captures.old.may_wait outputs.new result }
     ensures may_wait { captures.new.may_wait ≡ captures.old.may_wait }
     ensures step { IsPut coming.entry.part.now.segments.now S.taken S.goes T.sees coming.entry.part.now.changes.now
-        (run_at captures.old.ports.items captures.old.underlay turns.old (state_of taker.old.endpoint) taker.old.desk.number outputs.old)
-        (run_at captures.new.ports.items captures.new.underlay turns.new (state_of taker.new.endpoint) taker.new.desk.number
+        (run_at captures.old.ports.items captures.old.underlay turns.old (state_of taker.old.endpoint) taker.old.scratch.number outputs.old)
+        (run_at captures.new.ports.items captures.new.underlay turns.new (state_of taker.new.endpoint) taker.new.scratch.number
         outputs.new) coming.entry.first sieve.old sieve.new watch.old watch.new result }
     ensures many { length captures.new.ports.items ≡ length captures.old.ports.items }
     ensures turns { OnErr result (turns.new ≡ turns.old) }
@@ -91,13 +91,13 @@ pub fn put_events<R: Input, W: Output, S: Sieve, T: Watch>(
     sieve: &mut S,
     watch: &mut T,
 ) -> Result<(), StreamFault>
-    requires none { taker.old.desk.number ≡ 0 }
+    requires none { taker.old.scratch.number ≡ 0 }
     requires out { IsOutOrAll (S.all sieve.old) captures.old.may_wait outputs.old }
     requires ready { AreReady part.now.changes.now 0
         (run_at captures.old.ports.items captures.old.underlay turns.old (state_of taker.old.endpoint) 0 outputs.old) }
     ensures run { IsSievedRun part.now.segments.now S.taken S.goes T.sees part.now.changes.now
         (run_at captures.old.ports.items captures.old.underlay turns.old (state_of taker.old.endpoint) 0 outputs.old)
-        (run_at captures.new.ports.items captures.new.underlay turns.new (state_of taker.new.endpoint) taker.new.desk.number
+        (run_at captures.new.ports.items captures.new.underlay turns.new (state_of taker.new.endpoint) taker.new.scratch.number
         outputs.new) sieve.old sieve.new watch.old watch.new result }
     ensures waits { IsOutAtRead captures.old.may_wait outputs.new result }
     ensures many { length captures.new.ports.items ≡ length captures.old.ports.items }

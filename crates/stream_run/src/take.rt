@@ -1,19 +1,19 @@
 //! Events as the endpoint takes them: a change, a frame, a packet.
 ghost use Rattle.std.specs.Prelude.{◌≡◌, ◌≤◌, ◌<◌, ◌+◌, ◌^◌, List, Result, Some, None, IfOk, IsSome, length, true};
-ghost use Rattle.frame_view.specs.declared.reason.Refused.{Refused};
-ghost use Rattle.pcap_io.specs.Record.{Record as ARecord, last_moment};
-ghost use Rattle.pcap_stream.specs.Source.{Stream, lent};
+ghost use Rattle.wire.specs.declared.ether.reason.Refused.{Refused};
+ghost use Rattle.pcap.specs.Record.{Record as ARecord, last_moment};
+ghost use Rattle.pcap.specs.Source.{Stream, lent};
 ghost use Rattle.timeline.specs.declared.source.Tap.{Tap as ATap};
 ghost use Rattle.timeline.specs.declared.source.Tap.TheVariants.{Port, Underlay};
-ghost use Rattle.endpoint_state.specs.Change.{named};
-ghost use Rattle.endpoint_core.specs.Came.{Came as ACame};
+ghost use Rattle.endpoint_core.specs.Change.{named};
+ghost use Rattle.endpoint_core.specs.Arrival.{Arrival as ACame};
 ghost use Rattle.endpoint_core.specs.Event.{change_at, frame_at, packet_at};
 ghost use Rattle.endpoint_core.specs.Kept.{state_of};
 ghost use Rattle.endpoint_core.specs.Among.{after_among};
 ghost use Rattle.endpoint_core.specs.Step.{Decided, after, after_coming, answer, decided};
-ghost use Rattle.endpoint_state.specs.Settings.{segment_at};
-ghost use Rattle.endpoint_state.specs.Sound.{is_reached};
-ghost use Rattle.endpoint_state.specs.State.{aged};
+ghost use Rattle.endpoint_core.specs.Settings.{segment_at};
+ghost use Rattle.endpoint_core.specs.Sound.{is_reached};
+ghost use Rattle.endpoint_core.specs.State.{aged};
 ghost use Rattle.capture_run.specs.Outputs.{Outputs as Texts, change_at as change_told};
 ghost use Rattle.capture_run.specs.Writing.{with_input};
 ghost use Rattle.stream_run.specs.Amidst.{PutsInOrder};
@@ -26,12 +26,12 @@ use crate::captures::Captures;
 use crate::fault::Target;
 use crate::outputs::Outputs;
 use crate::part::{Next, Part, Taker};
-use crate::put::{put_course, put_line};
+use crate::put::{put_forwarding, put_line};
 use crate::watch::Watch;
-use decision_lines::Desk;
-use endpoint_core::{Course, Endpoint, nothing_came, segment_of};
+use decision_lines::Scratch;
+use endpoint_core::{Endpoint, Forwarding, nothing_came, segment_of};
 use overlay_config::{Change, TimedChange};
-use pcap_stream::{Input, Output, Source};
+use pcap::stream::{Input, Output, Source};
 use segment_set::SegmentSet;
 use timeline::{Captured, Event, Happening, Tap};
 
@@ -39,7 +39,7 @@ use timeline::{Captured, Event, Happening, Tap};
 pub fn take_change<W: Output, T: Watch>(
     outputs: &mut Outputs<W>,
     endpoint: &mut Endpoint,
-    desk: &mut Desk,
+    scratch: &mut Scratch,
     event: &Event,
     change: Change,
     watch: &mut T,
@@ -49,19 +49,20 @@ pub fn take_change<W: Output, T: Watch>(
     ensures state { state_of endpoint.new ≡ after (state_of endpoint.old) (change_at event.now.moment change) }
     ensures outputs { (start : Drains) (o : Texts) → StandAt start outputs.old o
         → Lead start outputs.new o
-        (with_input desk.old.number (named change) o event.now
+        (with_input scratch.old.number (named change) o event.now
         (answer (state_of endpoint.old) (change_at event.now.moment change))) result }
-    ensures number { desk.new.number ≡ desk.old.number }
-    ensures seen { T.sees watch.old (answered (due (state_of endpoint.old) desk.old.number event.now)
+    ensures number { scratch.new.number ≡ scratch.old.number }
+    ensures seen { T.sees watch.old (answered (due (state_of endpoint.old) scratch.old.number event.now)
         (answer (state_of endpoint.old) (change_at event.now.moment change))) watch.new }
 {
-    watch.see(endpoint, desk.number.value(), event, &nothing_came());
+    watch.see(endpoint, scratch.number.value(), event, &nothing_came());
     let asked = change;
     let reply = endpoint.change(event.moment, asked);
     watch.hear_reply(reply);
-    desk.line
-        .write_reply(&desk.number, event, change.vid(), reply);
-    put_line(outputs, desk.line.text())
+    scratch
+        .line
+        .write_reply(&scratch.number, event, change.vid(), reply);
+    put_line(outputs, scratch.line.text())
 }
 
 /// Shows a frame or a packet that came to a segment, or to none, as the endpoint tells it; puts it to the endpoint, tells what
@@ -69,36 +70,36 @@ pub fn take_change<W: Output, T: Watch>(
 fn take_came<W: Output, T: Watch>(
     outputs: &mut Outputs<W>,
     endpoint: &mut Endpoint,
-    desk: &mut Desk,
+    scratch: &mut Scratch,
     event: &Event,
-    course: &mut Course,
+    forwarding: &mut Forwarding,
     watch: &mut T,
 ) -> Result<(), Target>
     requires time { (state_of endpoint.old).moment ≤ event.now.moment }
     requires moment { event.now.moment ≤ last_moment }
-    requires there { IfOk course.old (λ x. IsSome (segment_at (state_of endpoint.old).bridges.settings x.vid)) }
-    requires short { IfOk course.old (λ x. length x.frame.body ≤ 65549) }
-    requires reached { IfOk course.old (λ x. is_reached (state_of endpoint.old).bridges.settings.overlay x.vid x.from ≡ true) }
-    requires brought { IsBrought (state_of endpoint.old).bridges.settings event.now.happening course.old }
-    ensures state { state_of endpoint.new ≡ after_coming event.now.moment course.old (state_of endpoint.old) }
+    requires there { IfOk forwarding.old (λ x. IsSome (segment_at (state_of endpoint.old).bridges.settings x.vid)) }
+    requires short { IfOk forwarding.old (λ x. length x.frame.body ≤ 65549) }
+    requires reached { IfOk forwarding.old (λ x. is_reached (state_of endpoint.old).bridges.settings.overlay x.vid x.from ≡ true) }
+    requires brought { IsBrought (state_of endpoint.old).bridges.settings event.now.happening forwarding.old }
+    ensures state { state_of endpoint.new ≡ after_coming event.now.moment forwarding.old (state_of endpoint.old) }
     ensures outputs { (start : Drains) (o : Texts)
         → StandAt start outputs.old o
         → Lead start outputs.new o
-        (with_input desk.old.number None o event.now
-        (Decided (decided event.now.moment (aged event.now.moment (state_of endpoint.old).bridges) course.old))) result }
+        (with_input scratch.old.number None o event.now
+        (Decided (decided event.now.moment (aged event.now.moment (state_of endpoint.old).bridges) forwarding.old))) result }
     ensures order { (start : Drains) (o : Texts)
         → StandAt start outputs.old o
-        → PutsInOrder start outputs.new desk.old.number None o event.now
-        (Decided (decided event.now.moment (aged event.now.moment (state_of endpoint.old).bridges) course.old)) result }
-    ensures number { desk.new.number ≡ desk.old.number }
-    ensures seen { T.sees watch.old (answered (due (state_of endpoint.old) desk.old.number event.now)
-        (Decided (decided event.now.moment (aged event.now.moment (state_of endpoint.old).bridges) course.old))) watch.new }
+        → PutsInOrder start outputs.new scratch.old.number None o event.now
+        (Decided (decided event.now.moment (aged event.now.moment (state_of endpoint.old).bridges) forwarding.old)) result }
+    ensures number { scratch.new.number ≡ scratch.old.number }
+    ensures seen { T.sees watch.old (answered (due (state_of endpoint.old) scratch.old.number event.now)
+        (Decided (decided event.now.moment (aged event.now.moment (state_of endpoint.old).bridges) forwarding.old))) watch.new }
 {
-    let number = desk.number.value();
-    watch.see(endpoint, number, event, course);
-    endpoint.take(event.moment, course, &mut desk.places);
-    watch.hear_decision(endpoint, course, desk.places.as_slice());
-    put_course(outputs, endpoint, desk, event, course)
+    let number = scratch.number.value();
+    watch.see(endpoint, number, event, forwarding);
+    endpoint.take(event.moment, forwarding, &mut scratch.places);
+    watch.hear_decision(endpoint, forwarding, scratch.places.as_slice());
+    put_forwarding(outputs, endpoint, scratch, event, forwarding)
 }
 
 /// Takes the frame that a port's source lends, behind so many others: where it is told to these segments, it's shown, put to the
@@ -123,16 +124,16 @@ pub fn take_frame<R: Input, W: Output, T: Watch>(
     ensures outputs { (r : ARecord) (start : Drains) (o : Texts) → lent source.now.standing ≡ Some r
         → StandAt start outputs.old o
         → Lead start outputs.new o
-        (with_input_among segments.now taker.old.desk.number None (state_of taker.old.endpoint) o
+        (with_input_among segments.now taker.old.scratch.number None (state_of taker.old.endpoint) o
         (record_event (Port port) next.done next.moment r) (frame_at next.moment port r.original r.octets)) result }
     ensures order { (r : ARecord) (start : Drains) (o : Texts) → lent source.now.standing ≡ Some r
         → StandAt start outputs.old o
-        → PutsInOrder start outputs.new taker.old.desk.number None o
+        → PutsInOrder start outputs.new taker.old.scratch.number None o
         (record_event (Port port) next.done next.moment r)
         (answer (state_of taker.old.endpoint) (frame_at next.moment port r.original r.octets)) result }
-    ensures number { taker.new.desk.number ≡ taker.old.desk.number }
+    ensures number { taker.new.scratch.number ≡ taker.old.scratch.number }
     ensures seen { (r : ARecord) → lent source.now.standing ≡ Some r
-        → T.sees watch.old (seen_among segments.now (state_of taker.old.endpoint) taker.old.desk.number
+        → T.sees watch.old (seen_among segments.now (state_of taker.old.endpoint) taker.old.scratch.number
         (record_event (Port port) next.done next.moment r) (frame_at next.moment port r.original r.octets)) watch.new }
 {
     let record = source.head().unwrap();
@@ -152,14 +153,14 @@ pub fn take_frame<R: Input, W: Output, T: Watch>(
         ),
     };
     if !segments.has(segment_of(&came)) {
-        watch.pass_over(&taker.endpoint, taker.desk.number.value(), &event);
+        watch.pass_over(&taker.endpoint, taker.scratch.number.value(), &event);
         taker.endpoint.pass(next.moment);
         return Ok(());
     }
     take_came(
         outputs,
         &mut taker.endpoint,
-        &mut taker.desk,
+        &mut taker.scratch,
         &event,
         &mut came,
         watch,
@@ -185,16 +186,16 @@ pub fn take_packet<R: Input, W: Output, T: Watch>(
     ensures outputs { (r : ARecord) (start : Drains) (o : Texts) → lent source.now.standing ≡ Some r
         → StandAt start outputs.old o
         → Lead start outputs.new o
-        (with_input_among segments.now taker.old.desk.number None (state_of taker.old.endpoint) o
+        (with_input_among segments.now taker.old.scratch.number None (state_of taker.old.endpoint) o
         (record_event Underlay next.done next.moment r) (packet_at next.moment r.original r.octets)) result }
     ensures order { (r : ARecord) (start : Drains) (o : Texts) → lent source.now.standing ≡ Some r
         → StandAt start outputs.old o
-        → PutsInOrder start outputs.new taker.old.desk.number None o
+        → PutsInOrder start outputs.new taker.old.scratch.number None o
         (record_event Underlay next.done next.moment r)
         (answer (state_of taker.old.endpoint) (packet_at next.moment r.original r.octets)) result }
-    ensures number { taker.new.desk.number ≡ taker.old.desk.number }
+    ensures number { taker.new.scratch.number ≡ taker.old.scratch.number }
     ensures seen { (r : ARecord) → lent source.now.standing ≡ Some r
-        → T.sees watch.old (seen_among segments.now (state_of taker.old.endpoint) taker.old.desk.number
+        → T.sees watch.old (seen_among segments.now (state_of taker.old.endpoint) taker.old.scratch.number
         (record_event Underlay next.done next.moment r) (packet_at next.moment r.original r.octets)) watch.new }
 {
     let record = source.head().unwrap();
@@ -214,14 +215,14 @@ pub fn take_packet<R: Input, W: Output, T: Watch>(
         ),
     };
     if !segments.has(segment_of(&brought)) {
-        watch.pass_over(&taker.endpoint, taker.desk.number.value(), &event);
+        watch.pass_over(&taker.endpoint, taker.scratch.number.value(), &event);
         taker.endpoint.pass(next.moment);
         return Ok(());
     }
     take_came(
         outputs,
         &mut taker.endpoint,
-        &mut taker.desk,
+        &mut taker.scratch,
         &event,
         &mut brought,
         watch,
@@ -248,10 +249,10 @@ pub fn take_at<R: Input, W: Output, T: Watch>(
     requires lent { (place : ATap) → IsAt (length captures.now.ports.items) next.index place
         → IsSome (lent (source_at captures.now.ports.items captures.now.underlay place).standing) }
     ensures taken { IsWatchedTake part.now.segments.now T.sees part.now.changes.now captures.now.ports.items
-        captures.now.underlay next.index next.done next.moment taker.old.desk.number (state_of taker.old.endpoint)
+        captures.now.underlay next.index next.done next.moment taker.old.scratch.number (state_of taker.old.endpoint)
         (state_of taker.new.endpoint)
         outputs.old outputs.new watch.old watch.new result }
-    ensures number { taker.new.desk.number ≡ taker.old.desk.number }
+    ensures number { taker.new.scratch.number ≡ taker.old.scratch.number }
 {
     if next.index == 0 {
         return take_change_at(part, outputs, taker, next, watch);
@@ -291,9 +292,9 @@ fn take_change_at<W: Output, T: Watch>(
     requires count { next.done + 1 < 2 ^ 64 }
     ensures taken { (ports : List Stream) (underlay : Stream)
         → IsWatchedTake part.now.segments.now T.sees part.now.changes.now ports underlay 0 next.done next.moment
-        taker.old.desk.number (state_of taker.old.endpoint) (state_of taker.new.endpoint)
+        taker.old.scratch.number (state_of taker.old.endpoint) (state_of taker.new.endpoint)
         outputs.old outputs.new watch.old watch.new result }
-    ensures number { taker.new.desk.number ≡ taker.old.desk.number }
+    ensures number { taker.new.scratch.number ≡ taker.old.scratch.number }
 {
     let event = Event {
         moment: next.moment,
@@ -302,7 +303,7 @@ fn take_change_at<W: Output, T: Watch>(
     };
     let named = part.changes[next.done as usize].change.vid();
     if !part.segments.has(named) {
-        watch.pass_over(&taker.endpoint, taker.desk.number.value(), &event);
+        watch.pass_over(&taker.endpoint, taker.scratch.number.value(), &event);
         make_change(&mut taker.endpoint, part.changes, next.moment, next.done);
         return Ok(());
     }
@@ -310,7 +311,7 @@ fn take_change_at<W: Output, T: Watch>(
     take_change(
         outputs,
         &mut taker.endpoint,
-        &mut taker.desk,
+        &mut taker.scratch,
         &event,
         change,
         watch,

@@ -5,13 +5,13 @@
 //! each with the state that it found and the answer that it got. An event is shown before it is taken and its answer told
 //! behind, so there is a state between (`expects`). It is shown with the frame that it brings, which the run knows already.
 ghost use Rattle.std.specs.Prelude.{◌≡◌};
-ghost use Rattle.frame_view.specs.First.{fault_of};
-ghost use Rattle.endpoint_core.specs.Course.{CanLeave, IsShortFrame, IsThere, decision_of};
+ghost use Rattle.wire.specs.First.{fault_of};
+ghost use Rattle.endpoint_core.specs.Forwarding.{CanLeave, IsShortFrame, IsThere, decision_of};
 ghost use Rattle.endpoint_core.specs.Kept.{state_of};
 ghost use Rattle.endpoint_core.specs.Step.{Decided, Replied, State};
 ghost use Rattle.stream_run.specs.Sights.{Due, IsBrought, Sight, answered, due, untold};
 
-use endpoint_core::{ChangeFault, Course, Endpoint};
+use endpoint_core::{ChangeFault, Endpoint, Forwarding};
 use filter_db::Place;
 use timeline::Event;
 
@@ -31,18 +31,19 @@ pub trait Watch {
 
     /// An event comes, which is taken next: the endpoint as it stands before, the event's number in the run, from 1, as its
     /// decision line has it, and the frame that it brings to a segment, or why it brings none; of a change that says nothing.
-    fn see(&mut self, endpoint: &Endpoint, number: u64, event: &Event, came: &Course)
+    fn see(&mut self, endpoint: &Endpoint, number: u64, event: &Event, came: &Forwarding)
         requires { IsBrought (state_of endpoint.now).bridges.settings event.now.happening came.now }
         ensures { expects self.old (due (state_of endpoint.now) number event.now) self.new };
 
     /// The frame or the packet that was seen last was taken: the endpoint as it stands behind it, and where the frame goes,
-    /// which is told by a course and the places. Nothing of that was written yet.
-    fn hear_decision(&mut self, endpoint: &Endpoint, course: &Course, places: &[Place])
-        requires there { IsThere (state_of endpoint.now).bridges.settings course.now }
-        requires short { IsShortFrame course.now }
-        requires leave { CanLeave (state_of endpoint.now).bridges.settings course.now places.now }
+    /// which is told by a forwarding and the places. Nothing of that was written yet.
+    fn hear_decision(&mut self, endpoint: &Endpoint, forwarding: &Forwarding, places: &[Place])
+        requires there { IsThere (state_of endpoint.now).bridges.settings forwarding.now }
+        requires short { IsShortFrame forwarding.now }
+        requires leave { CanLeave (state_of endpoint.now).bridges.settings forwarding.now places.now }
         ensures { (before : Self) (c : Due) → expects before c self.old
-            → sees before (answered c (Decided (decision_of (state_of endpoint.now).bridges.settings course.now places.now))) self.new };
+            → sees before
+            (answered c (Decided (decision_of (state_of endpoint.now).bridges.settings forwarding.now places.now))) self.new };
 
     /// The change that was seen last was made, or refused for this.
     fn hear_reply(&mut self, reply: Result<(), ChangeFault>)
@@ -70,10 +71,15 @@ impl Watch for Unwatched {
     ghost ends = { λ old state new. new ≡ old };
 
     #[inline]
-    fn see(&mut self, _endpoint: &Endpoint, _number: u64, _event: &Event, _came: &Course) {}
+    fn see(&mut self, _endpoint: &Endpoint, _number: u64, _event: &Event, _came: &Forwarding) {}
 
     #[inline]
-    fn hear_decision(&mut self, _endpoint: &Endpoint, _course: &Course, _places: &[Place]) {}
+    fn hear_decision(
+        &mut self,
+        _endpoint: &Endpoint,
+        _forwarding: &Forwarding,
+        _places: &[Place],
+    ) {}
 
     #[inline]
     fn hear_reply(&mut self, _reply: Result<(), ChangeFault>) {}

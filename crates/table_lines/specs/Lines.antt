@@ -4,7 +4,7 @@ use Rattle.std.specs.Prelude.{ℕ, max, ◌-◌, ◌/◌, ◌%◌, if◌then◌e
 use Rattle.std.specs.Prelude.{◌++◌, length, replicate, codes, decimal, Option, Some, None}
 use Rattle.std.specs.FinMap.{entries}
 use Rattle.std.specs.List.{flat_map, range_with_len}
-use Rattle.header_octets.specs.Octets.{octet}
+use Rattle.wire.specs.Octets.{octet}
 use Rattle.segment_set.specs.Segments.{Segments, holds}
 use Rattle.filter_db.specs.declared.entry.Entry.{Entry}
 use Rattle.endpoint_core.specs.Step.{State, has_two_tunnels, passed}

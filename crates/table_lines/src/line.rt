@@ -5,8 +5,8 @@ ghost use Rattle.table_lines.specs.Lines.{entry_line, mac_text, nine_digits, see
 
 use endpoint_core::{put_hex, put_place};
 use filter_db::{Entry, Place};
-use frame_view::{Mac, Vid};
 use std::alloc::AllocError;
+use wire::ether::{Mac, Vid};
 
 /// Nanoseconds in a second.
 const SECOND: u64 = 1_000_000_000;

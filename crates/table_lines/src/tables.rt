@@ -8,9 +8,9 @@ ghost use Rattle.table_lines.specs.Lines.{entry_line, lines_among, segment_lines
 use crate::line::put_line;
 use endpoint_core::Endpoint;
 use filter_db::Entry;
-use frame_view::{Mac, Vid};
 use segment_set::SegmentSet;
 use std::alloc::{AllocError, Global};
+use wire::ether::{Mac, Vid};
 
 /// The live entries of the segments that are asked for, one a line, the VIDs rising and within a segment the addresses: at a
 /// moment, in nanoseconds, up to which nothing more comes, or without one at that of the endpoint's last step, and never before

@@ -2,15 +2,15 @@
 use Rattle.std.proofs.Common.{◌≡◌, ◌∙◌, ℕ, Bool, true, false, Option, None, Result, length, refl, sym, ap, subst}
 use Rattle.std.specs.Prelude.{if◌then◌else◌, nat_le}
 use Rattle.std.proofs.lemmas.Bool.{and_from, le-leb}
-use Rattle.frame_view.specs.declared.reason.Refused.{Refused}
-use Rattle.vlan_ports.specs.Ports.{is_port}
+use Rattle.wire.specs.declared.ether.reason.Refused.{Refused}
+use Rattle.overlay.specs.Ports.{is_port}
 use Rattle.timeline.specs.Captured.{Captured}
 use Rattle.timeline.specs.declared.event.Happening.{Happening}
 use Rattle.timeline.specs.declared.event.Happening.TheVariants.{Record}
 use Rattle.timeline.specs.declared.source.Tap.{Tap}
 use Rattle.timeline.specs.declared.source.Tap.TheVariants.{Port, Underlay}
-use Rattle.endpoint_state.specs.Settings.{Settings}
-use Rattle.endpoint_core.specs.Came.{Came}
+use Rattle.endpoint_core.specs.Settings.{Settings}
+use Rattle.endpoint_core.specs.Arrival.{Arrival}
 use Rattle.stream_run.specs.Sights.{IsBrought}
 use Rattle.talkers.specs.Talkers.{coming_at, coming_by, coming_of}
 use Rattle.talkers.specs.declared.coming.Coming.{Coming}
@@ -19,7 +19,7 @@ picked : (b : Bool) (x : Option Coming) → b ≡ true → x ≡ (if b then x el
 picked true x is = refl
 picked false x is = absurd cc
 
-module _ (S : Settings) (moment : ℕ) (captured : Captured) (came : Result Came Refused) where
+module _ (S : Settings) (moment : ℕ) (captured : Captured) (came : Result Arrival Refused) where
   brought_at : (tap : Tap) → IsBrought S (Record tap captured) came → coming_by moment came ≡ coming_at S moment tap captured
   brought_at (Port port) b =
       ap (coming_by moment) b.2

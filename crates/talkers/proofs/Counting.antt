@@ -2,12 +2,12 @@
 use Rattle.std.proofs.Common.{◌≡◌, ◌∙◌, ap, sym, refl, List, [], ◌∷◌, ◌++◌, map, Option, Some, None, Ok, Err}
 use Rattle.std.specs.List.{FoldsTo, flat_map}
 use Rattle.filter_db.specs.declared.place.Place.{Place}
-use Rattle.overlay_settings.specs.declared.change.Change.{Change}
+use Rattle.overlay.specs.declared.settings.change.Change.{Change}
 use Rattle.timeline.specs.declared.event.Event.{Event}
-use Rattle.endpoint_state.specs.Settings.{Settings}
-use Rattle.frame_view.specs.declared.reason.Refused.{Refused}
-use Rattle.endpoint_core.specs.Came.{Came}
-use Rattle.endpoint_core.specs.Course.{Course, decision_of}
+use Rattle.endpoint_core.specs.Settings.{Settings}
+use Rattle.wire.specs.declared.ether.reason.Refused.{Refused}
+use Rattle.endpoint_core.specs.Arrival.{Arrival}
+use Rattle.endpoint_core.specs.Forwarding.{Forwarding, decision_of}
 use Rattle.endpoint_core.specs.Decision.{Sent}
 use Rattle.endpoint_core.specs.Step.{Answer, opened, sent_at}
 use Rattle.segment_set.specs.Segments.{Segments}
@@ -15,12 +15,12 @@ use Rattle.stream_run.specs.Sights.{Sight, sights}
 use Rattle.ranked_rows.specs.Rows.{Rows, counted}
 use Rattle.ranked_rows.specs.declared.row.Row.{Row}
 use Rattle.ranked_rows.proofs.Shown.{AreSums, all_shown}
-use Rattle.talk_rows.specs.Passed.{nothing, passed_with}
-use Rattle.talk_rows.specs.Sums.{nothing_is, with_grouped, with_turned, with_whole}
-use Rattle.talk_rows.specs.Talk.{rank}
-use Rattle.talk_rows.specs.declared.passed.Passed.{Passed}
-use Rattle.talk_rows.specs.declared.talk.Exit.TheVariants.{Drop}
-use Rattle.talk_rows.specs.declared.talk.Talk.{Talk}
+use Rattle.talkers.specs.Passed.{nothing, passed_with}
+use Rattle.talkers.specs.Sums.{nothing_is, with_grouped, with_turned, with_whole}
+use Rattle.talkers.specs.Talk.{rank}
+use Rattle.talkers.specs.declared.rows.passed.Passed.{Passed}
+use Rattle.talkers.specs.declared.rows.talk.Exit.TheVariants.{Drop}
+use Rattle.talkers.specs.declared.rows.talk.Talk.{Talk}
 use Rattle.talkers.specs.Run.{IsCounted, reply_rows, talks_in, talks_of}
 use Rattle.talkers.specs.Talkers.{Sees, SeesReply, Talkers, coming_of, exit_of, exit_to, rows_told}
 
@@ -33,12 +33,12 @@ places_sent : (f : Place → Sent) → ((place : Place) → (f place).place ≡ 
 places_sent f own [] = refl
 places_sent f own (place ∷ places) = λ i. own place i ∷ places_sent f own places i
 
-pub exit_forwarded : (S : Settings) (k : Course) (x : Came) (places : List Place) → k ≡ Ok x → exit_of (decision_of S k places) ≡ exit_to places
+pub exit_forwarded : (S : Settings) (k : Forwarding) (x : Arrival) (places : List Place) → k ≡ Ok x → exit_of (decision_of S k places) ≡ exit_to places
 exit_forwarded S k x places is =
-    ap (λ (l : Course). exit_of (decision_of S l places)) is ∙ ap exit_to (places_sent (sent_at S x.vid x.frame) (λ place. refl) places)
+    ap (λ (l : Forwarding). exit_of (decision_of S l places)) is ∙ ap exit_to (places_sent (sent_at S x.vid x.frame) (λ place. refl) places)
 
-pub exit_refused : (S : Settings) (k : Course) (refused : Refused) (places : List Place) → k ≡ Err refused → exit_of (decision_of S k places) ≡ Drop
-exit_refused S k refused places is = ap (λ (l : Course). exit_of (decision_of S l places)) is
+pub exit_refused : (S : Settings) (k : Forwarding) (refused : Refused) (places : List Place) → k ≡ Err refused → exit_of (decision_of S k places) ≡ Drop
+exit_refused S k refused places is = ap (λ (l : Forwarding). exit_of (decision_of S l places)) is
 
 -- ---- a run
 

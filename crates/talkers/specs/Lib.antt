@@ -1,3 +1,7 @@
-pub mod Talkers
 pub mod Lines
+pub mod Order
+pub mod Passed
 pub mod Run
+pub mod Sums
+pub mod Talk
+pub mod Talkers

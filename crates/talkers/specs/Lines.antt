@@ -3,14 +3,14 @@
 -- standard.
 use Rattle.std.specs.Prelude.{ℕ, ◌==◌, if◌then◌else◌, List, [], ◌∷◌, ◌++◌, codes, decimal}
 use Rattle.std.specs.List.{flat_map}
-use Rattle.story_words.specs.Words.{mac_text, place_text}
+use Rattle.change_story.specs.Words.{mac_text, place_text}
 use Rattle.ranked_rows.specs.Rows.{Rows}
 use Rattle.ranked_rows.specs.declared.row.Row.{Row}
-use Rattle.talk_rows.specs.Order.{largest_first}
-use Rattle.talk_rows.specs.declared.passed.Passed.{Passed}
-use Rattle.talk_rows.specs.declared.talk.Exit.{Exit}
-use Rattle.talk_rows.specs.declared.talk.Exit.TheVariants.{To, Flood, Drop}
-use Rattle.talk_rows.specs.declared.talk.Talk.{Talk}
+use Rattle.talkers.specs.Order.{largest_first}
+use Rattle.talkers.specs.declared.rows.passed.Passed.{Passed}
+use Rattle.talkers.specs.declared.rows.talk.Exit.{Exit}
+use Rattle.talkers.specs.declared.rows.talk.Exit.TheVariants.{To, Flood, Drop}
+use Rattle.talkers.specs.declared.rows.talk.Talk.{Talk}
 
 -- where frames went
 abbrev pub exit_text : Exit → List ℕ

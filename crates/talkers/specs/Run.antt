@@ -1,18 +1,18 @@
 -- Who talked to whom in a whole run. It states no standard.
 use Rattle.std.specs.Prelude.{◌≡◌, List, [], Option, Some, None}
 use Rattle.std.specs.List.{FoldsTo, flat_map}
-use Rattle.overlay_settings.specs.declared.change.Change.{Change}
+use Rattle.overlay.specs.declared.settings.change.Change.{Change}
 use Rattle.timeline.specs.declared.event.Event.{Event}
-use Rattle.endpoint_state.specs.Settings.{Settings}
+use Rattle.endpoint_core.specs.Settings.{Settings}
 use Rattle.endpoint_core.specs.Step.{Answer, opened}
 use Rattle.segment_set.specs.Segments.{Segments}
 use Rattle.stream_run.specs.Sights.{Sight, sights}
 use Rattle.ranked_rows.specs.Rows.{Rows, all_counts, shown}
 use Rattle.ranked_rows.specs.declared.row.Row.{Row}
-use Rattle.talk_rows.specs.Passed.{nothing, passed_with}
-use Rattle.talk_rows.specs.Talk.{rank}
-use Rattle.talk_rows.specs.declared.passed.Passed.{Passed}
-use Rattle.talk_rows.specs.declared.talk.Talk.{Talk}
+use Rattle.talkers.specs.Passed.{nothing, passed_with}
+use Rattle.talkers.specs.Talk.{rank}
+use Rattle.talkers.specs.declared.rows.passed.Passed.{Passed}
+use Rattle.talkers.specs.declared.rows.talk.Talk.{Talk}
 use Rattle.talkers.specs.Talkers.{Sees, Talkers, answer_rows, coming_of, no_talkers}
 use Rattle.talkers.specs.declared.coming.Coming.{Coming}
 

@@ -5,36 +5,36 @@
 --     Talkers      what was counted, and the frame that is awaited
 --     Expects, Hears, Sees      an event more, an answer more, both
 use Rattle.std.specs.Prelude.{◌≡◌, ℕ, if◌then◌else◌, List, [], ◌∷◌, length, map, Option, Some, None, Result, Ok, Err}
-use Rattle.frame_view.specs.Frame.{size}
-use Rattle.frame_view.specs.declared.reason.Reason.{Reason}
-use Rattle.frame_view.specs.declared.reason.Refused.{Refused}
+use Rattle.wire.specs.Frame.{size}
+use Rattle.wire.specs.declared.ether.reason.Reason.{Reason}
+use Rattle.wire.specs.declared.ether.reason.Refused.{Refused}
 use Rattle.filter_db.specs.declared.place.Place.{Place}
-use Rattle.vlan_ports.specs.Ports.{is_port}
+use Rattle.overlay.specs.Ports.{is_port}
 use Rattle.timeline.specs.Captured.{Captured}
 use Rattle.timeline.specs.declared.event.Happening.{Happening}
 use Rattle.timeline.specs.declared.event.Happening.TheVariants as happenings
 use Rattle.timeline.specs.declared.source.Tap.{Tap}
 use Rattle.timeline.specs.declared.source.Tap.TheVariants.{Port, Underlay}
-use Rattle.endpoint_state.specs.Settings.{Settings}
+use Rattle.endpoint_core.specs.Settings.{Settings}
 use Rattle.endpoint_core.specs.Arrival.{came_at, came_by}
-use Rattle.endpoint_core.specs.Came.{Came}
+use Rattle.endpoint_core.specs.Arrival.{Arrival}
 use Rattle.endpoint_core.specs.Decision.{Decision}
 use Rattle.endpoint_core.specs.Step.{Answer, Decided, Replied}
 use Rattle.stream_run.specs.Sights.{Due, Sight}
 use Rattle.ranked_rows.specs.Rows.{Rows, counted_all, no_rows, row_of}
 use Rattle.ranked_rows.specs.declared.row.Row.{Row}
-use Rattle.talk_rows.specs.Passed.{nothing, one_frame, passed_with}
-use Rattle.talk_rows.specs.Talk.{rank}
-use Rattle.talk_rows.specs.declared.passed.Passed.{Passed}
-use Rattle.talk_rows.specs.declared.talk.Exit.{Exit}
-use Rattle.talk_rows.specs.declared.talk.Exit.TheVariants.{To, Flood, Drop}
-use Rattle.talk_rows.specs.declared.talk.Talk.{Talk}
+use Rattle.talkers.specs.Passed.{nothing, one_frame, passed_with}
+use Rattle.talkers.specs.Talk.{rank}
+use Rattle.talkers.specs.declared.rows.passed.Passed.{Passed}
+use Rattle.talkers.specs.declared.rows.talk.Exit.{Exit}
+use Rattle.talkers.specs.declared.rows.talk.Exit.TheVariants.{To, Flood, Drop}
+use Rattle.talkers.specs.declared.rows.talk.Talk.{Talk}
 use Rattle.talkers.specs.declared.coming.Coming.{Coming}
 
 -- ---- what comes
 
 -- a frame that comes to a segment at a moment
-abbrev pub coming_by : ℕ → Result Came Refused → Option Coming
+abbrev pub coming_by : ℕ → Result Arrival Refused → Option Coming
 coming_by moment (Ok x) = Some (record {
   vid = x.vid;
   source = x.frame.src;

@@ -1,15 +1,15 @@
 //! The frame that an event brings.
 ghost use Rattle.std.specs.Prelude.{◌≡◌};
 ghost use Rattle.endpoint_core.specs.Kept.{state_of};
-ghost use Rattle.talk_rows.specs.Passed.{one_frame};
+ghost use Rattle.talkers.specs.Passed.{one_frame};
 ghost use Rattle.stream_run.specs.Sights.{IsBrought};
 ghost use Rattle.talkers.specs.Talkers.{coming_by, coming_of, talk_of};
 
-use endpoint_core::{Course, Endpoint};
+use crate::rows::{Exit, Passed, Talk};
+use endpoint_core::{Endpoint, Forwarding};
 use filter_db::Place;
-use frame_view::{Mac, Vid};
-use talk_rows::{Exit, Passed, Talk};
 use timeline::Happening;
+use wire::ether::{Mac, Vid};
 
 /// The octets of both addresses.
 const ADDRESSES: u64 = 12;
@@ -58,7 +58,7 @@ pub(crate) fn keep_coming(
     endpoint: &Endpoint,
     moment: u64,
     happening: &Happening,
-    came: &Course,
+    came: &Forwarding,
     coming: &mut Option<Coming>,
 )
     requires { IsBrought (state_of endpoint.now).bridges.settings happening.now came.now }
@@ -72,7 +72,7 @@ pub(crate) fn keep_coming(
 
 /// Keeps a frame that comes to a segment, where it does.
 #[inline(always)]
-fn keep_by(moment: u64, came: &Course, coming: &mut Option<Coming>)
+fn keep_by(moment: u64, came: &Forwarding, coming: &mut Option<Coming>)
     ensures { coming.new ≡ coming_by moment came.now }
 {
     match came {

@@ -3,12 +3,12 @@ ghost use Rattle.std.specs.Prelude.{◌≡◌, ◌++◌, OnOk, string_bytes};
 ghost use Rattle.std.specs.List.{flat_map};
 ghost use Rattle.talkers.specs.Lines.{exit_text, others_line, passed_text, talk_line, talk_text};
 
+use crate::rows::{Exit, Passed, Talk};
+use change_story::words::put_mac;
 use endpoint_core::put_place;
 use ranked_rows::Row;
 use std::alloc::AllocError;
 use std::fmt::Write;
-use story_words::put_mac;
-use talk_rows::{Exit, Passed, Talk};
 
 /// Puts the lines of these rows, and of what all others come to.
 pub fn put_talks(

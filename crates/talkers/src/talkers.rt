@@ -1,6 +1,6 @@
 //! Who talks to whom.
 ghost use Rattle.std.specs.Prelude.{◌≡◌, IfOk};
-ghost use Rattle.endpoint_core.specs.Course.{decision_of};
+ghost use Rattle.endpoint_core.specs.Forwarding.{decision_of};
 ghost use Rattle.endpoint_core.specs.Kept.{state_of};
 ghost use Rattle.endpoint_core.specs.Step.{Decided};
 ghost use Rattle.stream_run.specs.Sights.{IsBrought};
@@ -9,13 +9,13 @@ ghost use Rattle.talkers.specs.Talkers.{answer_told, exit_of, exit_to, expecting
 
 use crate::coming::{Coming, keep_coming};
 use crate::lines::put_talks;
-use endpoint_core::{ChangeFault, Course, Endpoint};
+use crate::rows::{Exit, Passed, Talk, largest_first};
+use endpoint_core::{ChangeFault, Endpoint, Forwarding};
 use filter_db::Place;
 use ranked_rows::RankedRows;
 use std::alloc::{AllocError, Global};
 use std::marker::Model;
 use stream_run::Watch;
-use talk_rows::{Exit, Passed, Talk, largest_first};
 use timeline::Event;
 
 /// Who talks to whom in the segments of an endpoint. It looks on while a run goes. Only [`Talkers::open`] and
@@ -67,12 +67,12 @@ impl Watch for Talkers {
 
     ghost ends = { λ old state new. new ≡ old };
 
-    fn see(&mut self, endpoint: &Endpoint, _number: u64, event: &Event, came: &Course) {
+    fn see(&mut self, endpoint: &Endpoint, _number: u64, event: &Event, came: &Forwarding) {
         self.expect(endpoint, event, came);
     }
 
-    fn hear_decision(&mut self, endpoint: &Endpoint, course: &Course, places: &[Place]) {
-        self.count_decision(endpoint, course, places);
+    fn hear_decision(&mut self, endpoint: &Endpoint, forwarding: &Forwarding, places: &[Place]) {
+        self.count_decision(endpoint, forwarding, places);
     }
 
     fn hear_reply(&mut self, _reply: Result<(), ChangeFault>) {}
@@ -84,7 +84,7 @@ impl Watch for Talkers {
 
 impl Talkers {
     /// Keeps the frame that an event brings.
-    fn expect(&mut self, endpoint: &Endpoint, event: &Event, came: &Course)
+    fn expect(&mut self, endpoint: &Endpoint, event: &Event, came: &Forwarding)
         requires { IsBrought (state_of endpoint.now).bridges.settings event.now.happening came.now }
         ensures { self.new ≡ expecting self.old (state_of endpoint.now).bridges.settings event.now.moment event.now.happening }
     {
@@ -98,10 +98,11 @@ impl Talkers {
     }
 
     /// Counts the frame that is kept, where it goes.
-    fn count_decision(&mut self, endpoint: &Endpoint, course: &Course, places: &[Place])
-        ensures { self.new ≡ answer_told self.old (Decided (decision_of (state_of endpoint.now).bridges.settings course.now places.now)) }
+    fn count_decision(&mut self, endpoint: &Endpoint, forwarding: &Forwarding, places: &[Place])
+        ensures { self.new ≡ answer_told self.old
+            (Decided (decision_of (state_of endpoint.now).bridges.settings forwarding.now places.now)) }
     {
-        let to = exit_of(endpoint, course, places);
+        let to = exit_of(endpoint, forwarding, places);
         count(&mut self.rows, self.coming, to);
     }
 }
@@ -116,10 +117,10 @@ fn count(rows: &mut RankedRows<Talk, Passed>, coming: Option<Coming>, to: Exit)
 }
 
 /// Where a frame goes.
-fn exit_of(endpoint: &Endpoint, course: &Course, places: &[Place]) -> Exit
-    ensures { result ≡ exit_of (decision_of (state_of endpoint.now).bridges.settings course.now places.now) }
+fn exit_of(endpoint: &Endpoint, forwarding: &Forwarding, places: &[Place]) -> Exit
+    ensures { result ≡ exit_of (decision_of (state_of endpoint.now).bridges.settings forwarding.now places.now) }
 {
-    match course {
+    match forwarding {
         Ok(_) => exit_to(places),
         Err(_) => Exit::Drop,
     }

@@ -2,16 +2,16 @@
 use Rattle.std.proofs.Common.{◌≡◌, ◌↔◌, ℕ, ◌==◌, ◌<◌, false, List, ◌++◌, length, Option, Some, None, Ok, refl, sym, ap, ◌∙◌, subst, arith, rules, inl, inr}
 use Rattle.std.specs.Prelude.{IsSome, is_none}
 use Rattle.std.proofs.lemmas.Bool.{not-false, ne_eqb, cond-false}
-use Rattle.frame_view.specs.Address.{is_group, is_reserved}
-use Rattle.frame_view.specs.First.{first}
-use Rattle.frame_view.specs.Frame.{Frame, IsFrame, plain, tagged}
-use Rattle.frame_view.specs.Tag.{IsVid, begins_tag, tag_text, tci_of}
-use Rattle.frame_view.proofs.FirstLemmas.{NothingHolds-from, unless-ok, same_Ok}
-use Rattle.vlan_ports.specs.Ingress.{IsEntering, Enters, enters, reasons, frame_in, tag_vid, vid_at, segment_vid, accepts}
-use Rattle.vlan_ports.specs.Ports.{Ports, port_at, is_up, egress_at}
-use Rattle.vlan_ports.specs.declared.member.Egress.{Egress}
-use Rattle.vlan_ports.specs.declared.member.Egress.TheVariants.{Tagged, Untagged}
-use Rattle.vlan_ports.proofs.Entering.{reads, enters-of}
+use Rattle.wire.specs.Address.{is_group, is_reserved}
+use Rattle.wire.specs.First.{first}
+use Rattle.wire.specs.Frame.{Frame, IsFrame, plain, tagged}
+use Rattle.wire.specs.Tag.{IsVid, begins_tag, tag_text, tci_of}
+use Rattle.wire.proofs.FirstLemmas.{NothingHolds-from, unless-ok, same_Ok}
+use Rattle.overlay.specs.Ingress.{IsEntering, Enters, enters, reasons, frame_in, tag_vid, vid_at, segment_vid, accepts}
+use Rattle.overlay.specs.Ports.{Ports, port_at, is_up, egress_at}
+use Rattle.overlay.specs.declared.ports.member.Egress.{Egress}
+use Rattle.overlay.specs.declared.ports.member.Egress.TheVariants.{Tagged, Untagged}
+use Rattle.overlay.proofs.Entering.{reads, enters-of}
 use Rattle.encapsulate.specs.Emission.{local_text}
 use Rattle.tenants_apart.specs.Again.{IsForwarded, TakesInto, as_untagged, IsBehindTag}
 

@@ -5,15 +5,15 @@ use Rattle.timeline.specs.Timeline.{Timeline}
 use Rattle.timeline.specs.declared.source.Source.{Source}
 use Rattle.timeline.specs.declared.source.Source.TheVariants as sources
 use Rattle.timeline.specs.declared.source.Tap.{Tap}
-use Rattle.overlay_settings.specs.Settings.{Settings as Told}
-use Rattle.endpoint_state.specs.Opened.{settings_told}
-use Rattle.endpoint_state.specs.Settings.{Settings}
+use Rattle.overlay.specs.Settings.{Settings as Told}
+use Rattle.endpoint_core.specs.Opened.{settings_told}
+use Rattle.endpoint_core.specs.Settings.{Settings}
 use Rattle.endpoint_core.specs.Event.{Input, FrameAt, Packet, Asks, Event, IsRising}
 use Rattle.endpoint_core.specs.Run.{settings_after_input}
 use Rattle.endpoint_core.specs.Step.{opened}
 use Rattle.capture_run.specs.Outputs.{Outputs}
 use Rattle.capture_run.specs.Sendings.{record_of}
-use Rattle.segment_isolation.specs.Alone.{is_segment, only}
+use Rattle.noninterference.specs.Alone.{is_segment, only}
 use Rattle.noninterference.specs.Coming.{Inputs, IsRunOf, ChangesNeverFall, changes_of, coming, coming_to, from_source}
 use Rattle.noninterference.specs.Leaving.{Row, rows_of, Departure, departures, departures_in, lines_in, leaves_at, records_in}
 use Rattle.noninterference.proofs.Asked.{changes-told}

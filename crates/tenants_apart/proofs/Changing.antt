@@ -4,17 +4,17 @@ use Rattle.std.specs.Prelude.{is_none, slice_set, slice_index_or}
 use Rattle.std.specs.FinMap.{empty, get, insert}
 use Rattle.std.specs.Option.{option_map, option_map_or, unwrap_or}
 use Rattle.std.proofs.lemmas.Bool.{false≢true, eqb-true, eq-eqb}
-use Rattle.flood_lists.specs.Flood.{Entries}
-use Rattle.vlan_ports.specs.Ports.{Members, no_port, member_set}
-use Rattle.vlan_ports.specs.declared.port.PortRule.{PortRule}
-use Rattle.vlan_ports.proofs.PlacesLemmas.{get-insert_at, get-insert_same, get-remove_at}
-use Rattle.underlay.specs.Overlay.{Segments, segment_of, flooding, with_flood}
-use Rattle.underlay.specs.declared.segment.Segment.{Segment}
-use Rattle.overlay_settings.specs.declared.change.Change.{Change}
-use Rattle.endpoint_state.specs.Settings.{Settings, BridgeSettings, SegmentSettings, segment_at}
-use Rattle.endpoint_state.specs.Effect.{Effect, ToFlood, ToBridge, ToLimit, ToMembers, ToPort, Comes, Goes, ToNothing, effect, with_flood_of, new_tunnels, new_bridge, applied}
-use Rattle.endpoint_state.specs.Change.{is_about, refused, accepted, changed}
-use Rattle.endpoint_state.proofs.EffectLemmas.{is_to, effect-other}
+use Rattle.overlay.specs.Flood.{Entries}
+use Rattle.overlay.specs.Ports.{Members, no_port, member_set}
+use Rattle.overlay.specs.declared.ports.port.PortRule.{PortRule}
+use Rattle.overlay.proofs.PlacesLemmas.{get-insert_at, get-insert_same, get-remove_at}
+use Rattle.overlay.specs.Overlay.{Segments, segment_of, flooding, with_flood}
+use Rattle.overlay.specs.declared.underlay.segment.Segment.{Segment}
+use Rattle.overlay.specs.declared.settings.change.Change.{Change}
+use Rattle.endpoint_core.specs.Settings.{Settings, BridgeSettings, SegmentSettings, segment_at}
+use Rattle.endpoint_core.specs.Effect.{Effect, ToFlood, ToBridge, ToLimit, ToMembers, ToPort, Comes, Goes, ToNothing, effect, with_flood_of, new_tunnels, new_bridge, applied}
+use Rattle.endpoint_core.specs.Change.{is_about, refused, accepted, changed}
+use Rattle.endpoint_core.proofs.EffectLemmas.{is_to, effect-other}
 use Rattle.tenants_apart.specs.Own.{Part, part_of}
 use Rattle.tenants_apart.proofs.Refusing.{whole_of}
 

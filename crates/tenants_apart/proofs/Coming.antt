@@ -3,28 +3,28 @@ use Rattle.std.proofs.Common.{◌≡◌, ℕ, Bool, true, false, List, Option, S
 use Rattle.std.specs.Option.{option_map}
 use Rattle.std.proofs.lemmas.Bool.{false≢true, eqb-true}
 use Rattle.std.proofs.lemmas.Option.{none-some, same_Some}
-use Rattle.frame_view.specs.First.{first, unless}
-use Rattle.frame_view.specs.declared.reason.Refused.{Refused}
-use Rattle.ip_udp_view.specs.declared.addr.Tunnel.{Tunnel}
-use Rattle.ip_udp_view.specs.Udp.{data_of}
-use Rattle.vlan_ports.specs.Ports.{Ports, members_at}
-use Rattle.vlan_ports.specs.Ingress.{enters}
-use Rattle.underlay.specs.Overlay.{Overlay, segment_at}
-use Rattle.underlay.specs.declared.segment.Segment.{Segment}
+use Rattle.wire.specs.First.{first, unless}
+use Rattle.wire.specs.declared.ether.reason.Refused.{Refused}
+use Rattle.wire.specs.declared.ip_udp.addr.Tunnel.{Tunnel}
+use Rattle.wire.specs.Udp.{data_of}
+use Rattle.overlay.specs.Ports.{Ports, members_at}
+use Rattle.overlay.specs.Ingress.{enters}
+use Rattle.overlay.specs.Overlay.{Overlay, segment_at}
+use Rattle.overlay.specs.declared.underlay.segment.Segment.{Segment}
 use Rattle.decapsulate.specs.Arrival.{packet_in, kind_to, vni_of, arrival_of}
-use Rattle.endpoint_core.specs.Came.{Came}
+use Rattle.endpoint_core.specs.Arrival.{Arrival}
 use Rattle.endpoint_core.specs.Arrival.{capture_reasons, entered, let_in, tunnelled, came_at, came_by}
 use Rattle.endpoint_core.proofs.LetIn.{let_in-segment}
-use Rattle.segment_isolation.specs.Alone.{is_segment}
-use Rattle.segment_isolation.proofs.Arriving.{found, found_for, arrives-found, arrival-found}
-use Rattle.segment_isolation.proofs.Coming.{by-tunnelled, came_at-same}
-use Rattle.segment_isolation.proofs.Finding.{found_at}
+use Rattle.noninterference.specs.Alone.{is_segment}
+use Rattle.noninterference.proofs.Arriving.{found, found_for, arrives-found, arrival-found}
+use Rattle.noninterference.proofs.Coming.{by-tunnelled, came_at-same}
+use Rattle.noninterference.proofs.Finding.{found_at}
 use Rattle.tenants_apart.specs.Own.{segment_met}
 
 -- ---- by a local port
 
 -- whether a frame whose body begins with a tag is let in changes nothing of that
-met-unless : (o : Option Refused) (r s : Result Came Refused) → segment_met r ≡ segment_met s → segment_met (unless o r) ≡ segment_met (unless o s)
+met-unless : (o : Option Refused) (r s : Result Arrival Refused) → segment_met r ≡ segment_met s → segment_met (unless o r) ≡ segment_met (unless o s)
 met-unless (Some refused) r s same = refl
 met-unless None r s same = same
 
@@ -41,8 +41,8 @@ frame-own vid P Q S T ports members port original b =
     ∙ by (is_segment vid (segment_met (came_at P T port original b))) (is_segment vid (segment_met (came_at Q T port original b))) refl refl
   where
     by : (c d : Bool) → is_segment vid (segment_met (came_at P T port original b)) ≡ c → is_segment vid (segment_met (came_at Q T port original b)) ≡ d → c ≡ d
-    by true d is other = sym is ∙ sym (ap (λ (r : Result Came Refused). is_segment vid (segment_met r)) (came_at-same vid P Q T T ports members refl port original b is)) ∙ other
-    by false true is other = sym is ∙ ap (λ (r : Result Came Refused). is_segment vid (segment_met r)) (came_at-same vid Q P T T (sym ports) (sym members) refl port original b other) ∙ other
+    by true d is other = sym is ∙ sym (ap (λ (r : Result Arrival Refused). is_segment vid (segment_met r)) (came_at-same vid P Q T T ports members refl port original b is)) ∙ other
+    by false true is other = sym is ∙ ap (λ (r : Result Arrival Refused). is_segment vid (segment_met r)) (came_at-same vid Q P T T (sym ports) (sym members) refl port original b other) ∙ other
     by false false is other = refl
 
 -- ---- by a tunnel

@@ -2,19 +2,19 @@
 use Rattle.std.proofs.Common.{◌≡◌, ◌∙◌, refl, sym, ap, ℕ, Bool, true, false, cond, ◌||◌, ◌&&◌, List, [], ◌∷◌, ◌++◌, filter, Option, Some, None}
 use Rattle.std.specs.Option.{option_and_then}
 use Rattle.std.proofs.lemmas.Bool.{false≢true}
-use Rattle.overlay_settings.specs.declared.change.Change.{Change}
-use Rattle.overlay_settings.specs.declared.change.Change.TheVariants.{AddSegment, SetLimit}
-use Rattle.endpoint_state.specs.declared.fault.ChangeFault.{ChangeFault}
-use Rattle.endpoint_state.specs.Effect.{effect}
-use Rattle.endpoint_state.specs.Change.{named, is_about, refused, table_fault}
-use Rattle.endpoint_state.specs.Settings.{Settings, SegmentSettings, segment_at}
-use Rattle.endpoint_state.specs.State.{State as Bridges, fault, aged}
+use Rattle.overlay.specs.declared.settings.change.Change.{Change}
+use Rattle.overlay.specs.declared.settings.change.Change.TheVariants.{AddSegment, SetLimit}
+use Rattle.endpoint_core.specs.declared.state.fault.ChangeFault.{ChangeFault}
+use Rattle.endpoint_core.specs.Effect.{effect}
+use Rattle.endpoint_core.specs.Change.{named, is_about, refused, table_fault}
+use Rattle.endpoint_core.specs.Settings.{Settings, SegmentSettings, segment_at}
+use Rattle.endpoint_core.specs.State.{State as Bridges, fault, aged}
 use Rattle.endpoint_core.specs.Arrival.{came_at, came_by}
 use Rattle.endpoint_core.specs.Event.{Input, FrameAt, Packet, Asks, Event, IsRising}
 use Rattle.endpoint_core.specs.Step.{State, Answer, Decided, Replied, opened, answer_by, after}
-use Rattle.segment_isolation.specs.Alone.{is_segment, all_see, concerns_by, concerns, only, Told, told_of, told, told_in}
-use Rattle.segment_isolation.proofs.Running.{told-alone}
-use Rattle.segment_isolation.proofs.Stepping.{decided-segment}
+use Rattle.noninterference.specs.Alone.{is_segment, all_see, concerns_by, concerns, only, Told, told_of, told, told_in}
+use Rattle.noninterference.proofs.Running.{told-alone}
+use Rattle.noninterference.proofs.Stepping.{decided-segment}
 use Rattle.noninterference.specs.Leaving.{rows, departures_in, lines_in}
 use Rattle.tenants_apart.specs.Own.{names_or_concerns, own_events, takes_room, asks_room, room_reply, room_replies}
 use Rattle.tenants_apart.proofs.Running.{own_from, replies_from, own_from-is, replies_from-is, room-none}

@@ -1,8 +1,8 @@
 -- Two lists of events to endpoints with two settings.
 use Rattle.std.proofs.Common.{◌≡◌, ◌∙◌, sym, ap, ℕ, List, ◌++◌}
 use Rattle.std.specs.FinMap.{empty}
-use Rattle.endpoint_state.specs.Settings.{Settings}
-use Rattle.endpoint_state.specs.State.{live_in}
+use Rattle.endpoint_core.specs.Settings.{Settings}
+use Rattle.endpoint_core.specs.State.{live_in}
 use Rattle.endpoint_core.specs.Event.{Event, IsRising}
 use Rattle.endpoint_core.specs.Step.{opened}
 use Rattle.noninterference.specs.Leaving.{Row, rows, departures_in, lines_in}

@@ -1,13 +1,13 @@
 -- What concerns a segment is told by the settings in force.
 use Rattle.std.proofs.Common.{◌≡◌, ◌∙◌, refl, ap, ℕ, List, [], ◌∷◌}
-use Rattle.endpoint_state.specs.Settings.{Settings}
-use Rattle.endpoint_state.specs.State.{aged}
+use Rattle.endpoint_core.specs.Settings.{Settings}
+use Rattle.endpoint_core.specs.State.{aged}
 use Rattle.endpoint_core.specs.Arrival.{came_at, came_by}
 use Rattle.endpoint_core.specs.Event.{FrameAt, Packet, Event, frame_at, packet_at}
 use Rattle.endpoint_core.specs.Run.{settings_after}
 use Rattle.endpoint_core.specs.Step.{State, opened, after, state_after}
-use Rattle.segment_isolation.specs.Alone.{is_segment, concerns}
-use Rattle.segment_isolation.proofs.Stepping.{decided-segment}
+use Rattle.noninterference.specs.Alone.{is_segment, concerns}
+use Rattle.noninterference.proofs.Stepping.{decided-segment}
 use Rattle.tenants_apart.specs.Own.{segment_met, names_or_concerns}
 use Rattle.tenants_apart.proofs.Running.{settings-after}
 

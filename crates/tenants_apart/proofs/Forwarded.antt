@@ -1,25 +1,25 @@
 -- What comes to a bridge, by a port or by a tunnel, is forwarded; and a whole record comes as it enters.
 use Rattle.std.proofs.Common.{◌≡◌, ℕ, ◌≤◌, List, length, Option, Some, None, Result, Ok, Err, refl, ap, ◌∙◌, subst, arith}
 use Rattle.std.proofs.lemmas.Bool.{ltb-false, le-ltb}
-use Rattle.header_octets.specs.Octets.{IsText}
-use Rattle.frame_view.specs.First.{first, unless}
-use Rattle.frame_view.specs.Frame.{Frame, frame_of}
-use Rattle.frame_view.specs.declared.reason.Refused.{Refused}
-use Rattle.frame_view.proofs.FirstLemmas.{NothingHolds-from, first-nothing, unless-ok, same_Ok}
-use Rattle.frame_view.proofs.RefusalLemmas.{refused-ok}
+use Rattle.wire.specs.Octets.{IsText}
+use Rattle.wire.specs.First.{first, unless}
+use Rattle.wire.specs.Frame.{Frame, frame_of}
+use Rattle.wire.specs.declared.ether.reason.Refused.{Refused}
+use Rattle.wire.proofs.FirstLemmas.{NothingHolds-from, first-nothing, unless-ok, same_Ok}
+use Rattle.wire.proofs.RefusalLemmas.{refused-ok}
 use Rattle.filter_db.specs.declared.place.Place.TheVariants.{Local}
-use Rattle.vlan_ports.specs.Ingress.{enters}
-use Rattle.vlan_ports.specs.Ports.{Ports}
-use Rattle.vlan_ports.proofs.Entering.{enters-from}
-use Rattle.ip_udp_view.specs.Udp.{data_of}
-use Rattle.ip_udp_view.specs.declared.addr.Addr.{Addr}
-use Rattle.ip_udp_view.specs.declared.addr.Tunnel.{Tunnel}
-use Rattle.underlay.specs.Overlay.{Overlay, segment_by}
-use Rattle.underlay.specs.declared.segment.Segment.{Segment}
+use Rattle.overlay.specs.Ingress.{enters}
+use Rattle.overlay.specs.Ports.{Ports}
+use Rattle.overlay.proofs.Entering.{enters-from}
+use Rattle.wire.specs.Udp.{data_of}
+use Rattle.wire.specs.declared.ip_udp.addr.Addr.{Addr}
+use Rattle.wire.specs.declared.ip_udp.addr.Tunnel.{Tunnel}
+use Rattle.overlay.specs.Overlay.{Overlay, segment_by}
+use Rattle.overlay.specs.declared.underlay.segment.Segment.{Segment}
 use Rattle.decapsulate.specs.Arrival.{capture_reasons as packet_reasons, outer_reasons, inner_reasons, packet_in, kind_to, vni_of, inner_of, arrival_in, arrival_by, arrival, arrival_of}
 use Rattle.decapsulate.specs.declared.arrived.Arrived.{Arrived}
 use Rattle.decapsulate.proofs.ArrivesLemmas.{is_frame-from}
-use Rattle.endpoint_core.specs.Came.{Came}
+use Rattle.endpoint_core.specs.Arrival.{Arrival}
 use Rattle.endpoint_core.specs.Arrival.{capture_reasons, entered, let_in, tunnelled, came_at, came_by}
 use Rattle.endpoint_core.proofs.LetIn.{let_in-ok}
 use Rattle.tenants_apart.specs.Again.{IsForwarded}
@@ -32,13 +32,13 @@ record-comes s o port v b f enters_so short =
     ap (λ (x : Option Refused). unless x (let_in o (entered port (enters s port b)))) (first-nothing (capture_reasons (length b) b) (le-ltb 65535 (length b) short, (le-ltb (length b) (length b) (omega arith), tt)))
     ∙ ap (λ (r : Result (ℕ × Frame) Refused). let_in o (entered port r)) enters_so
 
-entered-from : (port : ℕ) (r : Result (ℕ × Frame) Refused) (came : Came) → entered port r ≡ Ok came → r ≡ Ok (came.vid, came.frame)
+entered-from : (port : ℕ) (r : Result (ℕ × Frame) Refused) (came : Arrival) → entered port r ≡ Ok came → r ≡ Ok (came.vid, came.frame)
 entered-from port (Ok found) came h =
-    let made : Came = record { vid = found.0; from = Local port; frame = found.1 } in
-    ap (λ (c : Came). Ok (c.vid, c.frame)) (same_Ok made came h)
+    let made : Arrival = record { vid = found.0; from = Local port; frame = found.1 } in
+    ap (λ (c : Arrival). Ok (c.vid, c.frame)) (same_Ok made came h)
 entered-from port (Err refused) came h = absurd cc
 
-pub frame-forwarded : (s : Ports) (o : Overlay) (port original : ℕ) (b : List ℕ) (came : Came) → IsText b → came_at s o port original b ≡ Ok came → IsForwarded came.frame
+pub frame-forwarded : (s : Ports) (o : Overlay) (port original : ℕ) (b : List ℕ) (came : Arrival) → IsText b → came_at s o port original b ≡ Ok came → IsForwarded came.frame
 unfolding came_at
 frame-forwarded s o port original b came text h =
     let inside = unless-ok (first (capture_reasons original b)) (let_in o (entered port (enters s port b))) came h in
@@ -71,10 +71,10 @@ arrived-forwarded S original b x h =
     let inside = refused-ok None (first (outer_reasons S b)) (arrival_by S (kind_to S.underlay p) p.source p.destination (data_of p.payload)) x whole.1 in
     by_kind S (kind_to S.underlay p) p.source p.destination (data_of p.payload) x inside.1
 
-tunnelled-from : (r : Result Arrived Refused) (came : Came) → tunnelled r ≡ Ok came → ((x : Arrived) → r ≡ Ok x → IsForwarded x.frame) → IsForwarded came.frame
-tunnelled-from (Ok x) came h forwarded = subst (λ (c : Came). IsForwarded c.frame) (same_Ok _ came h) (forwarded x refl)
+tunnelled-from : (r : Result Arrived Refused) (came : Arrival) → tunnelled r ≡ Ok came → ((x : Arrived) → r ≡ Ok x → IsForwarded x.frame) → IsForwarded came.frame
+tunnelled-from (Ok x) came h forwarded = subst (λ (c : Arrival). IsForwarded c.frame) (same_Ok _ came h) (forwarded x refl)
 tunnelled-from (Err refused) came h forwarded = absurd cc
 
-pub packet-forwarded : (S : Overlay) (original : ℕ) (b : List ℕ) (came : Came) → came_by S original b ≡ Ok came → IsForwarded came.frame
+pub packet-forwarded : (S : Overlay) (original : ℕ) (b : List ℕ) (came : Arrival) → came_by S original b ≡ Ok came → IsForwarded came.frame
 unfolding came_by
 packet-forwarded S original b came h = tunnelled-from (arrival_of S original b) came h (arrived-forwarded S original b)

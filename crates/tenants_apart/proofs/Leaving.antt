@@ -6,26 +6,26 @@ use Rattle.std.specs.List.{AllByRecursion, filter, range_with_len}
 use Rattle.std.specs.FinMap.{get}
 use Rattle.std.proofs.lemmas.Bool.{and_parts, cond_both, not-true, not-false, false≢true}
 use Rattle.std.proofs.lemmas.Option.{same_Some}
-use Rattle.frame_view.specs.Address.{is_group}
-use Rattle.frame_view.specs.Frame.{Frame}
-use Rattle.frame_view.specs.declared.reason.Reason.{Reason}
-use Rattle.frame_view.specs.declared.reason.Reason.TheVariants.{SamePlace, Horizon, Unreachable}
-use Rattle.frame_view.specs.declared.reason.Refused.{Refused}
-use Rattle.flood_lists.specs.declared.remote.Remote.{Remote as Target}
+use Rattle.wire.specs.Address.{is_group}
+use Rattle.wire.specs.Frame.{Frame}
+use Rattle.wire.specs.declared.ether.reason.Reason.{Reason}
+use Rattle.wire.specs.declared.ether.reason.Reason.TheVariants.{SamePlace, Horizon, Unreachable}
+use Rattle.wire.specs.declared.ether.reason.Refused.{Refused}
+use Rattle.overlay.specs.declared.flood.remote.Remote.{Remote as Target}
 use Rattle.filter_db.specs.declared.place.Place.{Place}
 use Rattle.filter_db.specs.declared.place.Place.TheVariants.{Local, Remote}
 use Rattle.filter_db.specs.Place.{same_place}
 use Rattle.filter_db.specs.Table.{Table, stands}
-use Rattle.vlan_ports.specs.Ports.{Members, members_at, egress_at}
-use Rattle.vlan_ports.specs.declared.member.Egress.{Egress}
-use Rattle.underlay.specs.Overlay.{segment_at as overlay_segment}
-use Rattle.underlay.specs.declared.segment.Segment.{Segment}
+use Rattle.overlay.specs.Ports.{Members, members_at, egress_at}
+use Rattle.overlay.specs.declared.ports.member.Egress.{Egress}
+use Rattle.overlay.specs.Overlay.{segment_at as overlay_segment}
+use Rattle.overlay.specs.declared.underlay.segment.Segment.{Segment}
 use Rattle.tunnel_learning.specs.Bridge.{Config, place_of, serves, is_up_at, is_local_outlet, is_remote_outlet, local_places, remote_places, in_one_group, is_shut, toward, to_place, or_no_outlet, outlets}
 use Rattle.encapsulate.specs.Emission.{local_text}
-use Rattle.endpoint_state.specs.Settings.{Settings, BridgeSettings, SegmentSettings, joined, segment_at}
-use Rattle.endpoint_state.specs.State.{State as Bridges, aged}
-use Rattle.endpoint_state.specs.Step.{config_of, verdict_in, after_frame}
-use Rattle.endpoint_core.specs.Came.{Came}
+use Rattle.endpoint_core.specs.Settings.{Settings, BridgeSettings, SegmentSettings, joined, segment_at}
+use Rattle.endpoint_core.specs.State.{State as Bridges, aged}
+use Rattle.endpoint_core.specs.StateStep.{config_of, verdict_in, after_frame}
+use Rattle.endpoint_core.specs.Arrival.{Arrival}
 use Rattle.endpoint_core.specs.Arrival.{came_at, came_by, emitted}
 use Rattle.endpoint_core.specs.Decision.{Sent, Decision}
 use Rattle.endpoint_core.specs.Event.{Input, FrameAt, Packet, Asks, Event}
@@ -128,7 +128,7 @@ module _ (S : Settings) (t vid : ℕ) (f : Frame) (forwarded : IsForwarded f) (t
       (here, sent-well places all_open.1)
   sent-well (Remote kind addr ∷ places) all_open = remote (sent_at S vid f (Remote kind addr)) (map (sent_at S vid f) places) (λ octets. tt) (sent-well places all_open.1)
 
-decided-well : (t : ℕ) (B : Bridges) (r : Result Came Refused) → ((x : Came) → r ≡ Ok x → IsForwarded x.frame × IsTagless B.settings.overlay x.vid x.frame) → LeavesWell B.settings t (decided t B r)
+decided-well : (t : ℕ) (B : Bridges) (r : Result Arrival Refused) → ((x : Arrival) → r ≡ Ok x → IsForwarded x.frame × IsTagless B.settings.overlay x.vid x.frame) → LeavesWell B.settings t (decided t B r)
 decided-well t B (Err refused) forwarded = tt
 decided-well t B (Ok x) forwarded = by (segment_at B.settings x.vid) refl
   where

@@ -9,24 +9,24 @@ use Rattle.std.specs.Ordering.{nat_cmp}
 use Rattle.std.proofs.lemmas.Bool.{false≢true, eqb-true, ltb-true, ltb-false, lt-ltb, le-ltb, and_parts, or_parts, not-true, not-false}
 use Rattle.std.proofs.lemmas.List.Sums.{sum_by-le-sum_by}
 use Rattle.std.proofs.lemmas.Option.{none-some, same_Some}
-use Rattle.frame_view.specs.First.{first}
-use Rattle.frame_view.proofs.FirstLemmas.{NothingHolds-from}
-use Rattle.ip_udp_view.specs.declared.addr.Tunnel.{Tunnel}
+use Rattle.wire.specs.First.{first}
+use Rattle.wire.proofs.FirstLemmas.{NothingHolds-from}
+use Rattle.wire.specs.declared.ip_udp.addr.Tunnel.{Tunnel}
 use Rattle.filter_db.specs.Segment.{Segment as TableSegment}
 use Rattle.filter_db.specs.Standing.{limit_in, numbers_of_12_bits, sum_of_limits, segment_count}
-use Rattle.vlan_ports.proofs.PlacesLemmas.{get-insert_at}
-use Rattle.underlay.specs.Overlay.{segment_at as overlay_segment, segment_by, has_tunnel, taken, are_free, with_flood}
-use Rattle.underlay.specs.declared.segment.Segment.{Segment}
-use Rattle.underlay.specs.declared.tunnels.SegmentTunnel.{SegmentTunnel}
-use Rattle.underlay.proofs.CountLemmas.{found_where, none_where}
-use Rattle.overlay_settings.specs.declared.change.Change.{Change}
-use Rattle.overlay_settings.specs.declared.change.Change.TheVariants.{AddFlood, RemoveFlood, Fix, Unfix, SetAgeing, SetLearning, SetMember, PortUp, PortDown, Flush, AddSegment, RemoveSegment, SetLimit}
-use Rattle.overlay_settings.specs.declared.change.NewSegment.{NewSegment}
-use Rattle.endpoint_state.specs.declared.fault.ChangeFault.{ChangeFault}
-use Rattle.endpoint_state.specs.declared.fault.ChangeFault.TheVariants.{OutOfRange, SegmentThere, SegmentsFull, PoolFull}
-use Rattle.endpoint_state.specs.Settings.{Settings, BridgeSettings, SegmentSettings, segment_at, tables_asked}
-use Rattle.endpoint_state.specs.Effect.{Effect, ToFlood, effect, applied}
-use Rattle.endpoint_state.specs.Change.{named, is_about, in_segment, is_limit, is_ageing, are_vnis, is_taken, is_too_much, refused, accepted, changed}
+use Rattle.overlay.proofs.PlacesLemmas.{get-insert_at}
+use Rattle.overlay.specs.Overlay.{segment_at as overlay_segment, segment_by, has_tunnel, taken, are_free, with_flood}
+use Rattle.overlay.specs.declared.underlay.segment.Segment.{Segment}
+use Rattle.overlay.specs.declared.underlay.tunnels.SegmentTunnel.{SegmentTunnel}
+use Rattle.overlay.proofs.CountLemmas.{found_where, none_where}
+use Rattle.overlay.specs.declared.settings.change.Change.{Change}
+use Rattle.overlay.specs.declared.settings.change.Change.TheVariants.{AddFlood, RemoveFlood, Fix, Unfix, SetAgeing, SetLearning, SetMember, PortUp, PortDown, Flush, AddSegment, RemoveSegment, SetLimit}
+use Rattle.overlay.specs.declared.settings.change.NewSegment.{NewSegment}
+use Rattle.endpoint_core.specs.declared.state.fault.ChangeFault.{ChangeFault}
+use Rattle.endpoint_core.specs.declared.state.fault.ChangeFault.TheVariants.{OutOfRange, SegmentThere, SegmentsFull, PoolFull}
+use Rattle.endpoint_core.specs.Settings.{Settings, BridgeSettings, SegmentSettings, segment_at, tables_asked}
+use Rattle.endpoint_core.specs.Effect.{Effect, ToFlood, effect, applied}
+use Rattle.endpoint_core.specs.Change.{named, is_about, in_segment, is_limit, is_ageing, are_vnis, is_taken, is_too_much, refused, accepted, changed}
 use Rattle.endpoint_core.specs.Event.{Input, FrameAt, Packet, Asks, Event}
 use Rattle.endpoint_core.specs.Run.{settings_after_input}
 use Rattle.tenants_apart.specs.Own.{Part, part_of, names_or_concerns, own_events, takes_room, asks_room, room_reply, room_replies, wants_room}

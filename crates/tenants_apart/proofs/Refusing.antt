@@ -3,18 +3,18 @@ use Rattle.std.proofs.Common.{◌≡◌, ℕ, ◌==◌, true, not, [], ◌∷◌
 use Rattle.std.specs.Prelude.{if◌then◌else◌}
 use Rattle.std.specs.Option.{option_map}
 use Rattle.std.proofs.lemmas.Bool.{eqb-true}
-use Rattle.frame_view.specs.First.{first}
-use Rattle.frame_view.specs.Address.{is_group as is_group_mac}
-use Rattle.flood_lists.specs.Flood.{add_faults, holds}
-use Rattle.underlay.specs.Settings.{own}
-use Rattle.overlay_settings.specs.declared.change.Change.{Change}
-use Rattle.overlay_settings.specs.declared.change.Change.TheVariants.{AddFlood, RemoveFlood, Fix, Unfix, SetAgeing, SetLearning, SetMember, PortUp, PortDown, Flush, AddSegment, RemoveSegment, SetLimit}
-use Rattle.endpoint_state.specs.declared.fault.ChangeFault.{ChangeFault}
-use Rattle.endpoint_state.specs.declared.fault.ChangeFault.TheVariants.{NotThere, GroupAddress, OutOfRange}
-use Rattle.endpoint_state.specs.Fault.{of_flood}
-use Rattle.endpoint_state.specs.Settings.{Settings, SegmentSettings, kind_named}
-use Rattle.endpoint_state.specs.Change.{is_about, in_segment, at_tunnel, is_ageing, port_fault, target_fault, refused}
-use Rattle.segment_isolation.proofs.Seeing.{own_by}
+use Rattle.wire.specs.First.{first}
+use Rattle.wire.specs.Address.{is_group as is_group_mac}
+use Rattle.overlay.specs.Flood.{add_faults, holds}
+use Rattle.overlay.specs.UnderlaySettings.{own}
+use Rattle.overlay.specs.declared.settings.change.Change.{Change}
+use Rattle.overlay.specs.declared.settings.change.Change.TheVariants.{AddFlood, RemoveFlood, Fix, Unfix, SetAgeing, SetLearning, SetMember, PortUp, PortDown, Flush, AddSegment, RemoveSegment, SetLimit}
+use Rattle.endpoint_core.specs.declared.state.fault.ChangeFault.{ChangeFault}
+use Rattle.endpoint_core.specs.declared.state.fault.ChangeFault.TheVariants.{NotThere, GroupAddress, OutOfRange}
+use Rattle.endpoint_core.specs.Fault.{of_flood}
+use Rattle.endpoint_core.specs.Settings.{Settings, SegmentSettings, kind_named}
+use Rattle.endpoint_core.specs.Change.{is_about, in_segment, at_tunnel, is_ageing, port_fault, target_fault, refused}
+use Rattle.noninterference.proofs.Seeing.{own_by}
 use Rattle.tenants_apart.specs.Own.{Part, part_of, asks_room}
 
 -- the parts of a segment's settings put together, where each is there

@@ -3,18 +3,18 @@ use Rattle.std.proofs.Common.{◌≡◌, ◌∙◌, refl, sym, ap, subst, ◌++�
 use Rattle.std.specs.List.{AllByRecursion}
 use Rattle.std.proofs.lemmas.Bool.{false≢true}
 use Rattle.std.proofs.lemmas.Option.{none-some}
-use Rattle.frame_view.specs.First.{first}
+use Rattle.wire.specs.First.{first}
 use Rattle.filter_db.specs.Standing.{sum_of_limits, segment_count}
-use Rattle.overlay_settings.specs.declared.change.Change.{Change}
-use Rattle.overlay_settings.specs.declared.change.Change.TheVariants.{AddSegment, SetLimit}
-use Rattle.overlay_settings.specs.declared.change.NewSegment.{NewSegment}
-use Rattle.endpoint_state.specs.declared.fault.ChangeFault.{ChangeFault}
-use Rattle.endpoint_state.specs.declared.fault.ChangeFault.TheVariants.{OutOfRange, SegmentThere, SegmentsFull, PoolFull}
-use Rattle.endpoint_state.specs.Settings.{Settings, SegmentSettings, segment_at, tables_asked}
-use Rattle.endpoint_state.specs.Effect.{effect}
+use Rattle.overlay.specs.declared.settings.change.Change.{Change}
+use Rattle.overlay.specs.declared.settings.change.Change.TheVariants.{AddSegment, SetLimit}
+use Rattle.overlay.specs.declared.settings.change.NewSegment.{NewSegment}
+use Rattle.endpoint_core.specs.declared.state.fault.ChangeFault.{ChangeFault}
+use Rattle.endpoint_core.specs.declared.state.fault.ChangeFault.TheVariants.{OutOfRange, SegmentThere, SegmentsFull, PoolFull}
+use Rattle.endpoint_core.specs.Settings.{Settings, SegmentSettings, segment_at, tables_asked}
+use Rattle.endpoint_core.specs.Effect.{effect}
 use Rattle.endpoint_core.specs.Event.{Input, FrameAt, Packet, Asks, Event}
 use Rattle.endpoint_core.specs.Run.{settings_after_input}
-use Rattle.endpoint_state.specs.Change.{is_about, in_segment, is_limit, is_ageing, are_vnis, is_taken, is_too_much, refused}
+use Rattle.endpoint_core.specs.Change.{is_about, in_segment, is_limit, is_ageing, are_vnis, is_taken, is_too_much, refused}
 use Rattle.tenants_apart.specs.Own.{Part, part_of, names_or_concerns, own_events, takes_room, asks_room, room_reply, room_replies, is_want, wants_room}
 use Rattle.tenants_apart.proofs.Changing.{changed-own, changed-other}
 use Rattle.tenants_apart.proofs.Running.{same-head, same-tail, never-empty, room-none}

@@ -1,11 +1,11 @@
 -- What is a segment's own, in some cases.
 use Rattle.std.proofs.Common.{◌≡◌, ◌∙◌, refl, ap, ◌==◌, Bool, false, cond, [], ◌∷◌}
-use Rattle.overlay_settings.specs.Settings.{Settings as Told}
-use Rattle.overlay_settings.specs.declared.segment.SegmentRule.{SegmentRule}
-use Rattle.overlay_settings.specs.declared.change.Change.TheVariants.{SetLearning, PortDown, Flush, RemoveSegment, SetLimit}
-use Rattle.endpoint_state.specs.Settings.{Settings}
-use Rattle.endpoint_state.specs.Effect.{Goes, without_segment}
-use Rattle.endpoint_state.specs.Change.{refused, changed}
+use Rattle.overlay.specs.Settings.{Settings as Told}
+use Rattle.overlay.specs.declared.settings.segment.SegmentRule.{SegmentRule}
+use Rattle.overlay.specs.declared.settings.change.Change.TheVariants.{SetLearning, PortDown, Flush, RemoveSegment, SetLimit}
+use Rattle.endpoint_core.specs.Settings.{Settings}
+use Rattle.endpoint_core.specs.Effect.{Goes, without_segment}
+use Rattle.endpoint_core.specs.Change.{refused, changed}
 use Rattle.endpoint_core.specs.Arrival.{came_at, came_by}
 use Rattle.endpoint_core.specs.Event.{frame_at, packet_at, change_at}
 use Rattle.tenants_apart.specs.Own.{part_of, own_events, room_replies}

@@ -1,11 +1,11 @@
 -- Two runs that agree in a segment's own events, as far as the one goes.
 use Rattle.std.proofs.Common.{◌≡◌, ℕ, ◌≤◌, Bool, true, false, cond, ◌&&◌, List, [], ◌∷◌, ◌++◌, map, Option, refl, sym, ap, ◌∙◌, subst, le_trans, le_refl, append_assoc, append-nil}
 use Rattle.std.proofs.lemmas.Bool.{false≢true}
-use Rattle.endpoint_state.specs.declared.fault.ChangeFault.{ChangeFault}
-use Rattle.endpoint_state.specs.Settings.{Settings}
-use Rattle.endpoint_state.specs.Effect.{effect}
-use Rattle.endpoint_state.specs.Change.{refused}
-use Rattle.endpoint_state.specs.State.{live_in, aged}
+use Rattle.endpoint_core.specs.declared.state.fault.ChangeFault.{ChangeFault}
+use Rattle.endpoint_core.specs.Settings.{Settings}
+use Rattle.endpoint_core.specs.Effect.{effect}
+use Rattle.endpoint_core.specs.Change.{refused}
+use Rattle.endpoint_core.specs.State.{live_in, aged}
 use Rattle.endpoint_core.specs.Event.{Input, FrameAt, Packet, Asks, Event, IsRising}
 use Rattle.endpoint_core.specs.Run.{settings_after_input}
 use Rattle.endpoint_core.specs.Step.{State, answer, after}

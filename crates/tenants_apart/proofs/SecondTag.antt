@@ -2,19 +2,19 @@
 use Rattle.std.proofs.Common.{◌≡◌, ◌↔◌, ℕ, suc, ◌+◌, ◌<◌, ◌≤◌, true, List, [], ◌∷◌, ◌++◌, length, take, drop, Err, refl, sym, ap, ◌∙◌, arith, inr}
 use Rattle.std.proofs.lemmas.Bool.{false≢true}
 use Rattle.std.proofs.lemmas.List.{length-append, length-drop, drop-drop, take_at, drop_at}
-use Rattle.header_octets.specs.Octets.{IsText, octet, field, octets}
-use Rattle.header_octets.proofs.OctetsLemmas.{begins-true, cell, octets2-field, field2-below}
-use Rattle.frame_view.specs.Address.{is_group, is_reserved}
-use Rattle.frame_view.specs.Frame.{Frame, IsFrame, plain}
-use Rattle.frame_view.specs.Tag.{begins_tag, tag_text, tci_of, vid_of, pcp_of, dei_of}
-use Rattle.frame_view.specs.Refusal.{nowhere}
-use Rattle.frame_view.specs.declared.reason.Reason.TheVariants.{Runt, PortDown, BadSource, Reserved, CutTag, BadVid, FrameType, NoSegment, NotMember}
-use Rattle.frame_view.proofs.FrameLemmas.{control-parts}
-use Rattle.vlan_ports.specs.Ingress.{IsEntering, IsRefused, enters, source, destination}
-use Rattle.vlan_ports.specs.Ports.{Ports, is_up}
-use Rattle.vlan_ports.specs.declared.member.Egress.TheVariants.{Untagged}
-use Rattle.vlan_ports.proofs.Entering.{reads}
-use Rattle.vlan_ports.proofs.Refusals.{refused-of}
+use Rattle.wire.specs.Octets.{IsText, octet, field, octets}
+use Rattle.wire.proofs.OctetsLemmas.{begins-true, cell, octets2-field, field2-below}
+use Rattle.wire.specs.Address.{is_group, is_reserved}
+use Rattle.wire.specs.Frame.{Frame, IsFrame, plain}
+use Rattle.wire.specs.Tag.{begins_tag, tag_text, tci_of, vid_of, pcp_of, dei_of}
+use Rattle.wire.specs.Refusal.{nowhere}
+use Rattle.wire.specs.declared.ether.reason.Reason.TheVariants.{Runt, PortDown, BadSource, Reserved, CutTag, BadVid, FrameType, NoSegment, NotMember}
+use Rattle.wire.proofs.FrameLemmas.{control-parts}
+use Rattle.overlay.specs.Ingress.{IsEntering, IsRefused, enters, source, destination}
+use Rattle.overlay.specs.Ports.{Ports, is_up}
+use Rattle.overlay.specs.declared.ports.member.Egress.TheVariants.{Untagged}
+use Rattle.overlay.proofs.Entering.{reads}
+use Rattle.overlay.proofs.Refusals.{refused-of}
 use Rattle.encapsulate.specs.Emission.{local_text}
 use Rattle.tenants_apart.specs.Again.{IsForwarded, IsBehindTag}
 use Rattle.tenants_apart.proofs.Again.{frame-behind, same-octets}

@@ -4,13 +4,13 @@ use Rattle.std.specs.Option.{option_map_or}
 use Rattle.std.specs.Ordering.{nat_cmp}
 use Rattle.std.specs.FinMap.{empty, get, get-empty}
 use Rattle.std.proofs.lemmas.Bool.{false≢true, eqb-true, eq-eqb}
-use Rattle.vlan_ports.proofs.PlacesLemmas.{get-insert_at, get-insert_same}
-use Rattle.vlan_ports.specs.Ports.{members_at}
-use Rattle.ip_udp_view.specs.declared.addr.Tunnel.{Tunnel}
-use Rattle.underlay.specs.Index.{has_at}
-use Rattle.underlay.specs.Overlay.{segment_at as overlay_segment, has_tunnel}
-use Rattle.underlay.specs.declared.segment.Segment.{Segment}
-use Rattle.endpoint_state.specs.Settings.{Settings}
+use Rattle.overlay.proofs.PlacesLemmas.{get-insert_at, get-insert_same}
+use Rattle.overlay.specs.Ports.{members_at}
+use Rattle.wire.specs.declared.ip_udp.addr.Tunnel.{Tunnel}
+use Rattle.overlay.specs.Index.{has_at}
+use Rattle.overlay.specs.Overlay.{segment_at as overlay_segment, has_tunnel}
+use Rattle.overlay.specs.declared.underlay.segment.Segment.{Segment}
+use Rattle.endpoint_core.specs.Settings.{Settings}
 use Rattle.endpoint_core.specs.Event.{Input, FrameAt, Packet, Asks, Event, IsRising}
 use Rattle.endpoint_core.specs.Run.{settings_after_input}
 use Rattle.endpoint_core.specs.Step.{State, opened, after}

@@ -1,21 +1,21 @@
 -- An event of a segment's own does the same to two states that have the same of it, and another event does nothing to it.
 use Rattle.std.proofs.Common.{◌≡◌, ℕ, Bool, true, false, cond, List, Some, None, Result, Ok, Err, refl, sym, ap, ◌∙◌}
 use Rattle.std.specs.Prelude.{is_none}
-use Rattle.frame_view.specs.declared.reason.Refused.{Refused}
+use Rattle.wire.specs.declared.ether.reason.Refused.{Refused}
 use Rattle.filter_db.specs.Table.{Table}
-use Rattle.overlay_settings.specs.declared.change.Change.{Change}
-use Rattle.endpoint_state.specs.Settings.{Settings, segment_at}
-use Rattle.endpoint_state.specs.Change.{named, is_about, refused, changed}
-use Rattle.endpoint_state.specs.State.{State as Bridges, fault, table_changed, after_change}
-use Rattle.endpoint_state.specs.Step.{table_learned}
-use Rattle.endpoint_state.proofs.ChangeLemmas.{settings-alone}
-use Rattle.endpoint_core.specs.Came.{Came}
+use Rattle.overlay.specs.declared.settings.change.Change.{Change}
+use Rattle.endpoint_core.specs.Settings.{Settings, segment_at}
+use Rattle.endpoint_core.specs.Change.{named, is_about, refused, changed}
+use Rattle.endpoint_core.specs.State.{State as Bridges, fault, table_changed, after_change}
+use Rattle.endpoint_core.specs.StateStep.{table_learned}
+use Rattle.endpoint_core.proofs.ChangeLemmas.{settings-alone}
+use Rattle.endpoint_core.specs.Arrival.{Arrival}
 use Rattle.endpoint_core.specs.Arrival.{came_at, came_by}
 use Rattle.endpoint_core.specs.Event.{Input, FrameAt, Packet, Asks}
 use Rattle.endpoint_core.specs.Step.{Decided, Replied, decided, after_came, answer_by, bridges_after}
-use Rattle.segment_isolation.specs.Alone.{is_segment}
-use Rattle.segment_isolation.proofs.Coming.{came_at-same}
-use Rattle.segment_isolation.proofs.Deciding.{Basis, table_came, decided-same, fault_at, fault_at-same, table_chosen, unchanged}
+use Rattle.noninterference.specs.Alone.{is_segment}
+use Rattle.noninterference.proofs.Coming.{came_at-same}
+use Rattle.noninterference.proofs.Deciding.{Basis, table_came, decided-same, fault_at, fault_at-same, table_chosen, unchanged}
 use Rattle.tenants_apart.specs.Own.{Part, part_of, segment_met, names_or_concerns, asks_room}
 use Rattle.tenants_apart.proofs.Changing.{changed-own, changed-other}
 use Rattle.tenants_apart.proofs.Coming.{came_by-own}
@@ -43,16 +43,16 @@ in_own w = record {
 
 -- ---- the state after a frame
 
-abbrev came_own : ℕ → ℕ → Result Came Refused → Own → Own
+abbrev came_own : ℕ → ℕ → Result Arrival Refused → Own → Own
 came_own vid t (Ok x) w = record { settings = w.settings; table = table_came t vid x.vid x.from x.frame (in_own w) }
 came_own vid t (Err refused) w = w
 
-after_came-is : (vid t : ℕ) (r : Result Came Refused) (B : Bridges) → owned vid (after_came t B r) ≡ came_own vid t r (owned vid B)
+after_came-is : (vid t : ℕ) (r : Result Arrival Refused) (B : Bridges) → owned vid (after_came t B r) ≡ came_own vid t r (owned vid B)
 after_came-is vid t (Ok x) B = refl
 after_came-is vid t (Err refused) B = refl
 
 -- a frame of another segment
-came_own-other : (vid t : ℕ) (r : Result Came Refused) (w : Own) → is_segment vid (segment_met r) ≡ false → came_own vid t r w ≡ w
+came_own-other : (vid t : ℕ) (r : Result Arrival Refused) (w : Own) → is_segment vid (segment_met r) ≡ false → came_own vid t r w ≡ w
 came_own-other vid t (Ok x) w other = ap (λ (b : Bool). let left : Own = record { settings = w.settings; table = cond b (table_learned t x.from x.frame (whole_of w.settings) w.table) w.table } in left) other
 came_own-other vid t (Err refused) w other = refl
 
@@ -103,9 +103,9 @@ module _ (vid t : ℕ) (B C : Bridges) (h : owned vid B ≡ owned vid C) where
       ap Decided (decided-same vid t B C (ap in_own h) (came_by B.settings.overlay original b) own ∙ sym (ap (decided t C) (tunnel-same original b own other)))
   answer-same (Asks c) own other room = ap Replied (fault-same vid B C h c own (refused-own vid B.settings C.settings alike c own room))
 
-  came-same : (r s : Result Came Refused) → s ≡ r → owned vid (after_came t B r) ≡ owned vid (after_came t C s)
+  came-same : (r s : Result Arrival Refused) → s ≡ r → owned vid (after_came t B r) ≡ owned vid (after_came t C s)
   came-same r s same =
-      after_came-is vid t r B ∙ ap (came_own vid t r) h ∙ sym (after_came-is vid t r C) ∙ sym (ap (λ (x : Result Came Refused). owned vid (after_came t C x)) same)
+      after_came-is vid t r B ∙ ap (came_own vid t r) h ∙ sym (after_came-is vid t r C) ∙ sym (ap (λ (x : Result Arrival Refused). owned vid (after_came t C x)) same)
 
   pub after-same : (i : Input) → names_or_concerns vid B.settings i ≡ true → names_or_concerns vid C.settings i ≡ true → AreRoomAlike vid B.settings C.settings i → owned vid (bridges_after t B i) ≡ owned vid (bridges_after t C i)
   after-same (FrameAt port original b) own other room =
@@ -114,7 +114,7 @@ module _ (vid t : ℕ) (B C : Bridges) (h : owned vid B ≡ owned vid C) where
       came-same (came_by B.settings.overlay original b) (came_by C.settings.overlay original b) (tunnel-same original b own other)
   after-same (Asks c) own other room = change-same vid t B C h c (refused-own vid B.settings C.settings alike c own room)
 
-came-other : (vid t : ℕ) (B : Bridges) (r : Result Came Refused) → is_segment vid (segment_met r) ≡ false → owned vid (after_came t B r) ≡ owned vid B
+came-other : (vid t : ℕ) (B : Bridges) (r : Result Arrival Refused) → is_segment vid (segment_met r) ≡ false → owned vid (after_came t B r) ≡ owned vid B
 came-other vid t B r other = after_came-is vid t r B ∙ came_own-other vid t r (owned vid B) other
 
 pub after-other : (vid t : ℕ) (B : Bridges) (i : Input) → names_or_concerns vid B.settings i ≡ false → owned vid (bridges_after t B i) ≡ owned vid B

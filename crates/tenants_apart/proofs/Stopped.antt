@@ -1,6 +1,6 @@
 -- Two runs, either of which may have stopped.
 use Rattle.std.proofs.Common.{◌≡◌, ◌∙◌, refl, sym, ap, ℕ, List, [], ◌∷◌, ◌++◌, inl, inr}
-use Rattle.endpoint_state.specs.Settings.{Settings}
+use Rattle.endpoint_core.specs.Settings.{Settings}
 use Rattle.endpoint_core.specs.Event.{Event, IsRising}
 use Rattle.endpoint_core.specs.Step.{State, opened, after, state_after}
 use Rattle.noninterference.specs.Leaving.{Row, rows, departures_in, lines_in}

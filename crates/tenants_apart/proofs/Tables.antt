@@ -3,8 +3,8 @@ use Rattle.std.proofs.Common.{◌≡◌, ℕ, ◌≤◌, ◌==◌, Bool, true, f
 use Rattle.std.specs.FinMap.{entries}
 use Rattle.std.specs.List.{flat_map}
 use Rattle.std.specs.Option.{option_map_or}
-use Rattle.endpoint_state.specs.Settings.{Settings}
-use Rattle.endpoint_state.specs.State.{aged}
+use Rattle.endpoint_core.specs.Settings.{Settings}
+use Rattle.endpoint_core.specs.State.{aged}
 use Rattle.endpoint_core.specs.Event.{Event, IsRising}
 use Rattle.endpoint_core.specs.Step.{State, after, opened, passed, state_after}
 use Rattle.table_lines.specs.Lines.{entry_line, segment_lines}

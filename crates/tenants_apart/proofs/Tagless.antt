@@ -4,26 +4,26 @@ use Rattle.std.specs.Option.{option_map_or}
 use Rattle.std.specs.Cmp.{nat_cmp_total}
 use Rattle.std.specs.FinMap.{entries, entries_sorted, get-entries}
 use Rattle.std.proofs.lemmas.Bool.{false≢true}
-use Rattle.frame_view.specs.Ether.{has_tag}
-use Rattle.frame_view.specs.First.{first}
-use Rattle.frame_view.specs.Frame.{Frame, frame_of}
-use Rattle.frame_view.specs.Tag.{begins_tag}
-use Rattle.frame_view.specs.declared.reason.Refused.{Refused}
-use Rattle.frame_view.proofs.FirstLemmas.{NothingHolds-from, unless-ok, same_Ok}
-use Rattle.frame_view.proofs.RefusalLemmas.{refused-ok}
-use Rattle.vlan_ports.specs.Ingress.{enters}
-use Rattle.vlan_ports.specs.Ports.{Ports}
-use Rattle.ip_udp_view.specs.Udp.{data_of}
-use Rattle.ip_udp_view.specs.declared.addr.Addr.{Addr}
-use Rattle.ip_udp_view.specs.declared.addr.Tunnel.{Tunnel}
-use Rattle.underlay.specs.Overlay.{Overlay, segment_at, segment_by, has_tunnel, drops_tags, refuses_tags, refuses_tags_at}
-use Rattle.underlay.specs.declared.segment.Segment.{Segment}
-use Rattle.underlay.specs.declared.segment.TagRule.{TagRule}
-use Rattle.underlay.specs.declared.segment.TagRule.TheVariants.{Drop, Pass, Never}
-use Rattle.underlay.proofs.CountLemmas.{found_where}
+use Rattle.wire.specs.Ether.{has_tag}
+use Rattle.wire.specs.First.{first}
+use Rattle.wire.specs.Frame.{Frame, frame_of}
+use Rattle.wire.specs.Tag.{begins_tag}
+use Rattle.wire.specs.declared.ether.reason.Refused.{Refused}
+use Rattle.wire.proofs.FirstLemmas.{NothingHolds-from, unless-ok, same_Ok}
+use Rattle.wire.proofs.RefusalLemmas.{refused-ok}
+use Rattle.overlay.specs.Ingress.{enters}
+use Rattle.overlay.specs.Ports.{Ports}
+use Rattle.wire.specs.Udp.{data_of}
+use Rattle.wire.specs.declared.ip_udp.addr.Addr.{Addr}
+use Rattle.wire.specs.declared.ip_udp.addr.Tunnel.{Tunnel}
+use Rattle.overlay.specs.Overlay.{Overlay, segment_at, segment_by, has_tunnel, drops_tags, refuses_tags, refuses_tags_at}
+use Rattle.overlay.specs.declared.underlay.segment.Segment.{Segment}
+use Rattle.overlay.specs.declared.underlay.segment.TagRule.{TagRule}
+use Rattle.overlay.specs.declared.underlay.segment.TagRule.TheVariants.{Drop, Pass, Never}
+use Rattle.overlay.proofs.CountLemmas.{found_where}
 use Rattle.decapsulate.specs.Arrival.{capture_reasons as packet_reasons, outer_reasons, inner_reasons, packet_in, kind_to, vni_of, inner_of, arrival_in, arrival_by, arrival, arrival_of}
 use Rattle.decapsulate.specs.declared.arrived.Arrived.{Arrived}
-use Rattle.endpoint_core.specs.Came.{Came}
+use Rattle.endpoint_core.specs.Arrival.{Arrival}
 use Rattle.endpoint_core.specs.Arrival.{capture_reasons, entered, let_in, tunnelled, came_at, came_by}
 use Rattle.endpoint_core.proofs.LetIn.{let_in-ok}
 use Rattle.tenants_apart.specs.Again.{IsTagless}
@@ -35,7 +35,7 @@ first-not false b both is = refl
 
 -- ---- by a port
 
-pub frame-tagless : (s : Ports) (S : Overlay) (port original : ℕ) (b : List ℕ) (came : Came) → came_at s S port original b ≡ Ok came → IsTagless S came.vid came.frame
+pub frame-tagless : (s : Ports) (S : Overlay) (port original : ℕ) (b : List ℕ) (came : Arrival) → came_at s S port original b ≡ Ok came → IsTagless S came.vid came.frame
 unfolding came_at
 frame-tagless s S port original b came h refuses =
     let inside = unless-ok (first (capture_reasons original b)) (let_in S (entered port (enters s port b))) came h in
@@ -80,10 +80,10 @@ arrived-tagless S original b x h =
     let inside = refused-ok None (first (outer_reasons S b)) (arrival_by S (kind_to S.underlay p) p.source p.destination (data_of p.payload)) x whole.1 in
     by_kind S (kind_to S.underlay p) p.source p.destination (data_of p.payload) x inside.1
 
-tunnelled-from : (S : Overlay) (r : Result Arrived Refused) (came : Came) → tunnelled r ≡ Ok came → ((x : Arrived) → r ≡ Ok x → IsTagless S x.vid x.frame) → IsTagless S came.vid came.frame
-tunnelled-from S (Ok x) came h tagless = subst (λ (c : Came). IsTagless S c.vid c.frame) (same_Ok _ came h) (tagless x refl)
+tunnelled-from : (S : Overlay) (r : Result Arrived Refused) (came : Arrival) → tunnelled r ≡ Ok came → ((x : Arrived) → r ≡ Ok x → IsTagless S x.vid x.frame) → IsTagless S came.vid came.frame
+tunnelled-from S (Ok x) came h tagless = subst (λ (c : Arrival). IsTagless S c.vid c.frame) (same_Ok _ came h) (tagless x refl)
 tunnelled-from S (Err refused) came h tagless = absurd cc
 
-pub packet-tagless : (S : Overlay) (original : ℕ) (b : List ℕ) (came : Came) → came_by S original b ≡ Ok came → IsTagless S came.vid came.frame
+pub packet-tagless : (S : Overlay) (original : ℕ) (b : List ℕ) (came : Arrival) → came_by S original b ≡ Ok came → IsTagless S came.vid came.frame
 unfolding came_by
 packet-tagless S original b came h = tunnelled-from S (arrival_of S original b) came h (arrived-tagless S original b)

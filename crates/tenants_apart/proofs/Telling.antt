@@ -6,16 +6,16 @@ use Rattle.std.proofs.lemmas.Bool.{false≢true}
 use Rattle.std.proofs.lemmas.Grind.{flat_map-append}
 use Rattle.std.proofs.lemmas.List.{map-append}
 use Rattle.std.proofs.lemmas.List.Elements.{filter-append}
-use Rattle.frame_view.specs.declared.reason.Refused.{Refused}
-use Rattle.overlay_settings.specs.Change.{named}
-use Rattle.endpoint_state.specs.State.{State as Bridges, aged}
-use Rattle.endpoint_core.specs.Came.{Came}
+use Rattle.wire.specs.declared.ether.reason.Refused.{Refused}
+use Rattle.overlay.specs.Change.{named}
+use Rattle.endpoint_core.specs.State.{State as Bridges, aged}
+use Rattle.endpoint_core.specs.Arrival.{Arrival}
 use Rattle.endpoint_core.specs.Arrival.{came_at, came_by}
 use Rattle.endpoint_core.specs.Event.{Input, FrameAt, Packet, Asks, Event}
 use Rattle.endpoint_core.specs.Step.{State, decided, answer_by, after}
 use Rattle.capture_run.specs.Sendings.{sent_by}
-use Rattle.segment_isolation.specs.Alone.{is_segment}
-use Rattle.segment_isolation.proofs.Stepping.{decided-segment}
+use Rattle.noninterference.specs.Alone.{is_segment}
+use Rattle.noninterference.proofs.Stepping.{decided-segment}
 use Rattle.noninterference.specs.Leaving.{Row, rows, Departure, decided_in, departure, departing, departures, departures_in, Line, line_of, lines, lines_in}
 use Rattle.noninterference.proofs.Lists.{filter-flat_map, filter-none, filter-lines}
 use Rattle.tenants_apart.specs.Own.{segment_met, names_or_concerns, own_rows}
@@ -44,7 +44,7 @@ module _ (vid : ℕ) where
   abbrev leaves : Departure → Bool
   leaves d = is_segment vid d.segment
 
-  none_of : (t : ℕ) (B : Bridges) (input : Input) (r : Result Came Refused) → decided_in (answer_by t B input) ≡ (decided t B r).segment → is_segment vid (segment_met r) ≡ false → filter leaves (departing (row_by t B input)) ≡ []
+  none_of : (t : ℕ) (B : Bridges) (input : Input) (r : Result Arrival Refused) → decided_in (answer_by t B input) ≡ (decided t B r).segment → is_segment vid (segment_met r) ≡ false → filter leaves (departing (row_by t B input)) ≡ []
   none_of t B input r here other =
       filter-none leaves (departure (decided_in (answer_by t B input))) (λ s. ap (is_segment vid) (here ∙ decided-segment t B r) ∙ other) (sent_by t (answer_by t B input))
 

@@ -7,13 +7,13 @@ use Rattle.std.specs.Cmp.{nat_cmp_total, unsigned_tied}
 use Rattle.std.specs.FinMap.{get, from_entries, get-from_entries}
 use Rattle.std.specs.FinMap.Entries.{find as find_at}
 use Rattle.std.proofs.lemmas.Bool.{eqb-true, eq-eqb}
-use Rattle.vlan_ports.specs.Ports.{members_of}
-use Rattle.underlay.specs.Overlay.{segment_of}
-use Rattle.overlay_settings.specs.Settings.{Settings as Told, tunnel_rule, member_rule}
-use Rattle.overlay_settings.specs.declared.segment.SegmentRule.{SegmentRule}
-use Rattle.endpoint_state.specs.Learning.{tells_learning}
-use Rattle.endpoint_state.specs.Opened.{settings_told}
-use Rattle.endpoint_state.specs.Settings.{BridgeSettings}
+use Rattle.overlay.specs.Ports.{members_of}
+use Rattle.overlay.specs.Overlay.{segment_of}
+use Rattle.overlay.specs.Settings.{Settings as Told, tunnel_rule, member_rule}
+use Rattle.overlay.specs.declared.settings.segment.SegmentRule.{SegmentRule}
+use Rattle.endpoint_core.specs.Learning.{tells_learning}
+use Rattle.endpoint_core.specs.Opened.{settings_told}
+use Rattle.endpoint_core.specs.Settings.{BridgeSettings}
 use Rattle.tenants_apart.specs.Own.{part_of}
 use Rattle.tenants_apart.specs.Texts.{TellAlike}
 

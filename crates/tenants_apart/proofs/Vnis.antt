@@ -6,42 +6,42 @@ use Rattle.std.specs.Cmp.{nat_cmp_total}
 use Rattle.std.specs.Ordering.{nat_cmp}
 use Rattle.std.specs.FinMap.{get, insert, remove, entries, entries_sorted, get-entries, get-empty}
 use Rattle.std.proofs.lemmas.Bool.{false≢true, eqb-true, eq-eqb, not-false, or_parts}
-use Rattle.frame_view.proofs.FirstLemmas.{NothingHolds-from}
-use Rattle.frame_view.specs.declared.reason.Refused.{Refused}
-use Rattle.ip_udp_view.specs.Udp.{data_of}
-use Rattle.ip_udp_view.specs.declared.addr.Tunnel.{Tunnel}
-use Rattle.vlan_ports.proofs.PlacesLemmas.{get-insert_at, get-remove_at}
-use Rattle.underlay.specs.Index.{has_at}
-use Rattle.underlay.specs.Overlay.{Overlay, Segments, segment_at as overlay_segment, segment_of, segment_by, has_tunnel, are_free, flooding, with_flood, with_segment, told, AreApart}
-use Rattle.underlay.specs.Tunnels.{of_kind}
-use Rattle.underlay.specs.declared.segment.Segment.{Segment}
-use Rattle.underlay.specs.declared.segment.TunnelRule.{TunnelRule}
-use Rattle.underlay.specs.declared.settings.Underlay.{Underlay}
-use Rattle.underlay.specs.declared.tunnels.SegmentTunnel.{SegmentTunnel}
-use Rattle.underlay.proofs.CountLemmas.{found_where, none_where}
-use Rattle.underlay.proofs.IndexLemmas.{free_of}
-use Rattle.underlay.proofs.ToldLemmas.{IsApartFrom, apart_before, told_free, told_more}
-use Rattle.flood_lists.specs.Flood.{Entries}
+use Rattle.wire.proofs.FirstLemmas.{NothingHolds-from}
+use Rattle.wire.specs.declared.ether.reason.Refused.{Refused}
+use Rattle.wire.specs.Udp.{data_of}
+use Rattle.wire.specs.declared.ip_udp.addr.Tunnel.{Tunnel}
+use Rattle.overlay.proofs.PlacesLemmas.{get-insert_at, get-remove_at}
+use Rattle.overlay.specs.Index.{has_at}
+use Rattle.overlay.specs.Overlay.{Overlay, Segments, segment_at as overlay_segment, segment_of, segment_by, has_tunnel, are_free, flooding, with_flood, with_segment, told, AreApart}
+use Rattle.overlay.specs.Tunnels.{of_kind}
+use Rattle.overlay.specs.declared.underlay.segment.Segment.{Segment}
+use Rattle.overlay.specs.declared.underlay.segment.TunnelRule.{TunnelRule}
+use Rattle.overlay.specs.declared.underlay.settings.Underlay.{Underlay}
+use Rattle.overlay.specs.declared.underlay.tunnels.SegmentTunnel.{SegmentTunnel}
+use Rattle.overlay.proofs.CountLemmas.{found_where, none_where}
+use Rattle.overlay.proofs.IndexLemmas.{free_of}
+use Rattle.overlay.proofs.ToldLemmas.{IsApartFrom, apart_before, told_free, told_more}
+use Rattle.overlay.specs.Flood.{Entries}
 use Rattle.decapsulate.specs.Arrival.{packet_in, kind_to, vni_of}
-use Rattle.overlay_settings.specs.Rules.{MeetsRules}
-use Rattle.overlay_settings.specs.Settings.{Settings as Told, tunnel_rule}
-use Rattle.overlay_settings.proofs.Openers.{are_apart}
-use Rattle.overlay_settings.specs.declared.change.Change.{Change}
-use Rattle.overlay_settings.specs.declared.change.Change.TheVariants.{AddFlood, RemoveFlood, AddSegment, RemoveSegment}
-use Rattle.overlay_settings.specs.declared.change.NewSegment.{NewSegment}
-use Rattle.endpoint_state.specs.declared.fault.ChangeFault.{ChangeFault}
-use Rattle.endpoint_state.specs.declared.fault.ChangeFault.TheVariants.{OutOfRange, SegmentThere, SegmentsFull, PoolFull}
-use Rattle.endpoint_state.specs.Settings.{Settings, SegmentSettings, segment_at, tables_asked}
-use Rattle.endpoint_state.specs.Effect.{new_tunnels}
-use Rattle.endpoint_state.specs.Change.{is_limit, is_ageing, are_vnis, is_taken, is_too_much, refused, accepted, changed}
-use Rattle.endpoint_state.specs.Opened.{settings_told}
+use Rattle.overlay.specs.Rules.{MeetsRules}
+use Rattle.overlay.specs.Settings.{Settings as Told, tunnel_rule}
+use Rattle.overlay.proofs.Openers.{are_apart}
+use Rattle.overlay.specs.declared.settings.change.Change.{Change}
+use Rattle.overlay.specs.declared.settings.change.Change.TheVariants.{AddFlood, RemoveFlood, AddSegment, RemoveSegment}
+use Rattle.overlay.specs.declared.settings.change.NewSegment.{NewSegment}
+use Rattle.endpoint_core.specs.declared.state.fault.ChangeFault.{ChangeFault}
+use Rattle.endpoint_core.specs.declared.state.fault.ChangeFault.TheVariants.{OutOfRange, SegmentThere, SegmentsFull, PoolFull}
+use Rattle.endpoint_core.specs.Settings.{Settings, SegmentSettings, segment_at, tables_asked}
+use Rattle.endpoint_core.specs.Effect.{new_tunnels}
+use Rattle.endpoint_core.specs.Change.{is_limit, is_ageing, are_vnis, is_taken, is_too_much, refused, accepted, changed}
+use Rattle.endpoint_core.specs.Opened.{settings_told}
 use Rattle.filter_db.specs.Standing.{segment_count}
-use Rattle.endpoint_core.specs.Came.{Came}
+use Rattle.endpoint_core.specs.Arrival.{Arrival}
 use Rattle.endpoint_core.specs.Arrival.{came_by}
 use Rattle.endpoint_core.specs.Event.{FrameAt, Packet, Asks, Event, Input}
 use Rattle.endpoint_core.specs.Run.{settings_after_input, settings_after}
-use Rattle.segment_isolation.specs.Alone.{is_segment}
-use Rattle.segment_isolation.proofs.Arriving.{found, found_for}
+use Rattle.noninterference.specs.Alone.{is_segment}
+use Rattle.noninterference.proofs.Arriving.{found, found_for}
 use Rattle.tenants_apart.specs.Own.{segment_met}
 use Rattle.tenants_apart.specs.Vnis.{AreVnisApart}
 use Rattle.tenants_apart.proofs.Changing.{flooded, flooding-at}
@@ -208,7 +208,7 @@ found-for vid S T underlay here apart b own =
 packet-too : (vid : ℕ) (S T : Overlay) → S.underlay ≡ T.underlay → overlay_segment S vid ≡ overlay_segment T vid → AreVnisApart T → (original : ℕ) (b : List ℕ) → is_segment vid (segment_met (came_by S original b)) ≡ true → is_segment vid (segment_met (came_by T original b)) ≡ true
 packet-too vid S T underlay here apart original b own =
     let in_S = met-found vid S original b own in
-    ap (λ (r : Result Came Refused). is_segment vid (segment_met r)) (came_by-found vid S T underlay here original b in_S (found-for vid S T underlay here apart b in_S)) ∙ own
+    ap (λ (r : Result Arrival Refused). is_segment vid (segment_met r)) (came_by-found vid S T underlay here original b in_S (found-for vid S T underlay here apart b in_S)) ∙ own
 
 -- so a packet is of the segment in both or in neither
 pub packet-own : (vid : ℕ) (S T : Overlay) → S.underlay ≡ T.underlay → overlay_segment S vid ≡ overlay_segment T vid → AreVnisApart S → AreVnisApart T → (original : ℕ) (b : List ℕ) → is_segment vid (segment_met (came_by S original b)) ≡ is_segment vid (segment_met (came_by T original b))

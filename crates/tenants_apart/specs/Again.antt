@@ -7,18 +7,18 @@
 --     IsTagless      its body begins with no tag, where the segment takes none of those
 --     IsLocalText      what leaves at a port is the text of a frame
 use Rattle.std.specs.Prelude.{◌≡◌, ◌<◌, ◌≤◌, ℕ, true, false, List, ◌++◌, length, Option, Some, IsSome}
-use Rattle.header_octets.specs.Octets.{IsText}
-use Rattle.frame_view.specs.Address.{is_group, is_reserved}
-use Rattle.frame_view.specs.Frame.{Frame, IsFrame}
-use Rattle.frame_view.specs.Tag.{begins_tag, tag_text, tci_of}
+use Rattle.wire.specs.Octets.{IsText}
+use Rattle.wire.specs.Address.{is_group, is_reserved}
+use Rattle.wire.specs.Frame.{Frame, IsFrame}
+use Rattle.wire.specs.Tag.{begins_tag, tag_text, tci_of}
 use Rattle.filter_db.specs.declared.place.Place.{Place}
 use Rattle.filter_db.specs.declared.place.Place.TheVariants.{Local, Remote}
-use Rattle.vlan_ports.specs.Ingress.{accepts, segment_vid}
-use Rattle.vlan_ports.specs.Ports.{Ports, port_at, is_up, egress_at}
-use Rattle.vlan_ports.specs.declared.member.Egress.{Egress}
-use Rattle.underlay.specs.Overlay.{Overlay, refuses_tags_at}
+use Rattle.overlay.specs.Ingress.{accepts, segment_vid}
+use Rattle.overlay.specs.Ports.{Ports, port_at, is_up, egress_at}
+use Rattle.overlay.specs.declared.ports.member.Egress.{Egress}
+use Rattle.overlay.specs.Overlay.{Overlay, refuses_tags_at}
 use Rattle.encapsulate.specs.Emission.{local_text}
-use Rattle.endpoint_state.specs.Settings.{Settings}
+use Rattle.endpoint_core.specs.Settings.{Settings}
 use Rattle.endpoint_core.specs.Event.{Input, FrameAt, Packet, Asks}
 
 -- a frame with an individual source, to an address that bridges forward

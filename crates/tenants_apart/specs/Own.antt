@@ -6,25 +6,25 @@
 --     own_rows      its own events, each with its answer
 use Rattle.std.specs.Prelude.{◌≡◌, ◌⊎◌, ℕ, Bool, true, false, ◌&&◌, if◌then◌else◌, List, [], ◌∷◌, ◌++◌, Option, Result}
 use Rattle.std.specs.Option.{option_map_or}
-use Rattle.frame_view.specs.declared.reason.Refused.{Refused}
-use Rattle.vlan_ports.specs.Ports.{Members, members_at}
-use Rattle.vlan_ports.specs.declared.port.PortRule.{PortRule}
-use Rattle.underlay.specs.Overlay.{segment_at as overlay_segment}
-use Rattle.underlay.specs.declared.segment.Segment.{Segment}
-use Rattle.underlay.specs.declared.settings.Underlay.{Underlay}
-use Rattle.overlay_settings.specs.declared.change.Change.{Change}
-use Rattle.endpoint_state.specs.declared.fault.ChangeFault.{ChangeFault}
-use Rattle.endpoint_state.specs.declared.fault.ChangeFault.TheVariants.{SegmentThere, SegmentsFull, PoolFull}
-use Rattle.endpoint_state.specs.Settings.{Settings, BridgeSettings}
-use Rattle.endpoint_state.specs.Effect.{Effect, ToLimit, Comes, effect}
-use Rattle.endpoint_state.specs.Change.{is_about, refused}
+use Rattle.wire.specs.declared.ether.reason.Refused.{Refused}
+use Rattle.overlay.specs.Ports.{Members, members_at}
+use Rattle.overlay.specs.declared.ports.port.PortRule.{PortRule}
+use Rattle.overlay.specs.Overlay.{segment_at as overlay_segment}
+use Rattle.overlay.specs.declared.underlay.segment.Segment.{Segment}
+use Rattle.overlay.specs.declared.underlay.settings.Underlay.{Underlay}
+use Rattle.overlay.specs.declared.settings.change.Change.{Change}
+use Rattle.endpoint_core.specs.declared.state.fault.ChangeFault.{ChangeFault}
+use Rattle.endpoint_core.specs.declared.state.fault.ChangeFault.TheVariants.{SegmentThere, SegmentsFull, PoolFull}
+use Rattle.endpoint_core.specs.Settings.{Settings, BridgeSettings}
+use Rattle.endpoint_core.specs.Effect.{Effect, ToLimit, Comes, effect}
+use Rattle.endpoint_core.specs.Change.{is_about, refused}
 use Rattle.endpoint_core.specs.Among.{segment_of}
-use Rattle.endpoint_core.specs.Came.{Came}
+use Rattle.endpoint_core.specs.Arrival.{Arrival}
 use Rattle.endpoint_core.specs.Arrival.{came_at, came_by}
 use Rattle.endpoint_core.specs.Event.{Input, FrameAt, Packet, Asks, Event}
 use Rattle.endpoint_core.specs.Run.{settings_after_input}
 use Rattle.endpoint_core.specs.Step.{State, answer, after}
-use Rattle.segment_isolation.specs.Alone.{is_segment}
+use Rattle.noninterference.specs.Alone.{is_segment}
 use Rattle.noninterference.specs.Leaving.{Row}
 
 -- ---- settings
@@ -55,7 +55,7 @@ part_of vid S = record {
 -- ---- events
 
 -- the segment that a frame or packet comes to, or is refused in
-abbrev pub segment_met : Result Came Refused → Option ℕ
+abbrev pub segment_met : Result Arrival Refused → Option ℕ
 segment_met r = segment_of r
 
 -- while these settings are in force, an event is the segment's own: a frame or packet that comes to it or is refused in

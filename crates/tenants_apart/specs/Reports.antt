@@ -6,8 +6,8 @@ use Rattle.std.specs.Prelude.{◌≡◌, ℕ, ◌+◌, ◌-◌, nat_lt, false, i
 use Rattle.std.specs.List.{flat_map, range_with_len}
 use Rattle.segment_set.specs.Segments.{All}
 use Rattle.timeline.specs.declared.event.Event.{Event as Happens}
-use Rattle.overlay_settings.specs.declared.change.TimedChange.{TimedChange}
-use Rattle.endpoint_state.specs.Settings.{Settings}
+use Rattle.overlay.specs.declared.settings.change.TimedChange.{TimedChange}
+use Rattle.endpoint_core.specs.Settings.{Settings}
 use Rattle.endpoint_core.specs.Step.{State, opened}
 use Rattle.table_lines.specs.Lines.{segment_lines}
 use Rattle.stream_run.specs.Sights.{Sight, sights, state_among}

@@ -4,12 +4,12 @@
 --     Hold      the outputs hold the records and the lines of some events
 use Rattle.std.specs.Prelude.{◌≡◌, ◌⊎◌, ℕ, List, [], ◌++◌, length}
 use Rattle.std.specs.List.{flat_map}
-use Rattle.pcap_io.specs.Written.{written}
+use Rattle.pcap.specs.Written.{written}
 use Rattle.timeline.specs.Events.{IsTapOf}
 use Rattle.timeline.specs.Timeline.{Timeline}
 use Rattle.timeline.specs.declared.event.Event.{Event as Happens}
 use Rattle.timeline.specs.declared.source.Tap.{Tap}
-use Rattle.overlay_settings.specs.Settings.{Settings as Told}
+use Rattle.overlay.specs.Settings.{Settings as Told}
 use Rattle.decision_lines.specs.Lines.{cut_line}
 use Rattle.capture_run.specs.Outputs.{Outputs}
 use Rattle.stream_run.specs.Over.{whole_records}

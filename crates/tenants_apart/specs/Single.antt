@@ -2,9 +2,9 @@
 use Rattle.std.specs.Prelude.{ℕ, ◌==◌, if◌then◌else◌, Option, Some, None}
 use Rattle.std.specs.Ordering.{nat_cmp}
 use Rattle.std.specs.FinMap.{FinMap, empty, insert}
-use Rattle.vlan_ports.specs.Ports.{members_at}
-use Rattle.underlay.specs.Overlay.{segment_at as overlay_segment}
-use Rattle.endpoint_state.specs.Settings.{Settings}
+use Rattle.overlay.specs.Ports.{members_at}
+use Rattle.overlay.specs.Overlay.{segment_at as overlay_segment}
+use Rattle.endpoint_core.specs.Settings.{Settings}
 
 -- this value at this key, if it is one, and nothing else
 abbrev pub just : {X : Type 0} → ℕ → Option X → FinMap nat_cmp X

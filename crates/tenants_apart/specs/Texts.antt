@@ -6,11 +6,11 @@
 use Rattle.std.specs.Prelude.{◌≡◌, ℕ, ◌==◌, List, map, filter, Option}
 use Rattle.timeline.specs.Timeline.{Timeline}
 use Rattle.timeline.specs.declared.source.Source.{Source}
-use Rattle.overlay_settings.specs.Settings.{Settings as Told}
-use Rattle.overlay_settings.specs.declared.segment.SegmentRule.{SegmentRule}
-use Rattle.overlay_settings.specs.declared.change.TimedChange.{TimedChange}
-use Rattle.endpoint_state.specs.Opened.{settings_told}
-use Rattle.endpoint_state.specs.declared.fault.ChangeFault.{ChangeFault}
+use Rattle.overlay.specs.Settings.{Settings as Told}
+use Rattle.overlay.specs.declared.settings.segment.SegmentRule.{SegmentRule}
+use Rattle.overlay.specs.declared.settings.change.TimedChange.{TimedChange}
+use Rattle.endpoint_core.specs.Opened.{settings_told}
+use Rattle.endpoint_core.specs.declared.state.fault.ChangeFault.{ChangeFault}
 use Rattle.endpoint_core.specs.Event.{Event, change_at}
 use Rattle.noninterference.specs.Coming.{Inputs, coming, from_source}
 use Rattle.tenants_apart.specs.Own.{own_events, room_replies}

@@ -1,8 +1,8 @@
 -- Whose a VNI is, where no two segments have it. It states no standard.
 use Rattle.std.specs.Prelude.{◌≡◌, ℕ, true}
-use Rattle.ip_udp_view.specs.declared.addr.Tunnel.{Tunnel}
-use Rattle.underlay.specs.Index.{has_at}
-use Rattle.underlay.specs.Overlay.{Overlay}
+use Rattle.wire.specs.declared.ip_udp.addr.Tunnel.{Tunnel}
+use Rattle.overlay.specs.Index.{has_at}
+use Rattle.overlay.specs.Overlay.{Overlay}
 
 -- no two segments have tunnels of one kind with one VNI
 abbrev pub AreVnisApart : Overlay → Type 0

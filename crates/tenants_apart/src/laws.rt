@@ -4,32 +4,32 @@ ghost use Rattle.std.specs.List.{AllByRecursion};
 ghost use Rattle.timeline.specs.Timeline.{Timeline};
 ghost use Rattle.timeline.specs.declared.source.Source.{Source};
 ghost use Rattle.timeline.specs.declared.source.Tap.{Tap};
-ghost use Rattle.header_octets.specs.Octets.{IsText};
-ghost use Rattle.frame_view.specs.Frame.{Frame, IsFrame};
-ghost use Rattle.frame_view.specs.Refusal.{nowhere};
-ghost use Rattle.frame_view.specs.Tag.{IsVid, begins_tag};
-ghost use Rattle.frame_view.specs.declared.reason.Reason.TheVariants.{BadVid, CutTag};
+ghost use Rattle.wire.specs.Octets.{IsText};
+ghost use Rattle.wire.specs.Frame.{Frame, IsFrame};
+ghost use Rattle.wire.specs.Refusal.{nowhere};
+ghost use Rattle.wire.specs.Tag.{IsVid, begins_tag};
+ghost use Rattle.wire.specs.declared.ether.reason.Reason.TheVariants.{BadVid, CutTag};
 ghost use Rattle.filter_db.specs.declared.place.Place.TheVariants.{Local};
-ghost use Rattle.vlan_ports.specs.Ingress.{enters};
-ghost use Rattle.vlan_ports.specs.Ports.{Ports, is_up, members_at};
-ghost use Rattle.vlan_ports.specs.declared.member.Egress.TheVariants.{Tagged, Untagged};
-ghost use Rattle.underlay.specs.Overlay.{Overlay, segment_at};
+ghost use Rattle.overlay.specs.Ingress.{enters};
+ghost use Rattle.overlay.specs.Ports.{Ports, is_up, members_at};
+ghost use Rattle.overlay.specs.declared.ports.member.Egress.TheVariants.{Tagged, Untagged};
+ghost use Rattle.overlay.specs.Overlay.{Overlay, segment_at};
 ghost use Rattle.encapsulate.specs.Emission.{local_text};
-ghost use Rattle.overlay_settings.specs.Rules.{MeetsRules};
-ghost use Rattle.overlay_settings.specs.Settings.{Settings as Told};
-ghost use Rattle.overlay_settings.specs.declared.change.Change.{Change};
-ghost use Rattle.endpoint_state.specs.Change.{is_about, refused};
-ghost use Rattle.endpoint_state.specs.Effect.{effect};
-ghost use Rattle.endpoint_state.specs.Opened.{settings_told};
-ghost use Rattle.endpoint_state.specs.Settings.{Settings};
+ghost use Rattle.overlay.specs.Rules.{MeetsRules};
+ghost use Rattle.overlay.specs.Settings.{Settings as Told};
+ghost use Rattle.overlay.specs.declared.settings.change.Change.{Change};
+ghost use Rattle.endpoint_core.specs.Change.{is_about, refused};
+ghost use Rattle.endpoint_core.specs.Effect.{effect};
+ghost use Rattle.endpoint_core.specs.Opened.{settings_told};
+ghost use Rattle.endpoint_core.specs.Settings.{Settings};
 ghost use Rattle.endpoint_core.specs.Arrival.{came_at, came_by, let_in};
-ghost use Rattle.endpoint_core.specs.Came.{Came};
+ghost use Rattle.endpoint_core.specs.Arrival.{Arrival};
 ghost use Rattle.endpoint_core.specs.Event.{Event, FrameAt, Packet, Asks, IsRising, frame_at, packet_at, change_at};
 ghost use Rattle.endpoint_core.specs.Run.{settings_after};
 ghost use Rattle.endpoint_core.specs.Step.{State, opened, answer, passed, state_after};
 ghost use Rattle.table_lines.specs.Lines.{segment_lines};
 ghost use Rattle.capture_run.specs.Outputs.{Outputs};
-ghost use Rattle.segment_isolation.specs.Alone.{all_see, concerns, only};
+ghost use Rattle.noninterference.specs.Alone.{all_see, concerns, only};
 ghost use Rattle.noninterference.specs.Coming.{Inputs, IsRunOf, ChangesNeverFall, coming_to};
 ghost use Rattle.noninterference.specs.Leaving.{rows, rows_of, departing, departures, departures_in, lines_in, records_in};
 ghost use Rattle.tenants_apart.specs.Again.{IsForwarded, TakesInto, as_untagged, IsTagless, IsBehindTag, IsTextIn, LeavesAsText};
@@ -233,13 +233,13 @@ pub fn again()
     ensures records { (s : Ports) (o : Overlay) (port v : ℕ) (b : List ℕ) (f : Frame) →
         enters s port b ≡ Ok (v, f) → length b ≤ 65535 →
         came_at s o port (length b) b ≡ let_in o (Ok (record { vid = v; from = Local port; frame = f })) }
-    ensures frames { (s : Ports) (o : Overlay) (port original : ℕ) (b : List ℕ) (came : Came) → IsText b →
+    ensures frames { (s : Ports) (o : Overlay) (port original : ℕ) (b : List ℕ) (came : Arrival) → IsText b →
         came_at s o port original b ≡ Ok came → IsForwarded came.frame }
-    ensures packets { (o : Overlay) (original : ℕ) (b : List ℕ) (came : Came) →
+    ensures packets { (o : Overlay) (original : ℕ) (b : List ℕ) (came : Arrival) →
         came_by o original b ≡ Ok came → IsForwarded came.frame }
-    ensures frames_tagless { (s : Ports) (o : Overlay) (port original : ℕ) (b : List ℕ) (came : Came) →
+    ensures frames_tagless { (s : Ports) (o : Overlay) (port original : ℕ) (b : List ℕ) (came : Arrival) →
         came_at s o port original b ≡ Ok came → IsTagless o came.vid came.frame }
-    ensures packets_tagless { (o : Overlay) (original : ℕ) (b : List ℕ) (came : Came) →
+    ensures packets_tagless { (o : Overlay) (original : ℕ) (b : List ℕ) (came : Arrival) →
         came_by o original b ≡ Ok came → IsTagless o came.vid came.frame }
 {}
 

@@ -1,10 +1,10 @@
 //! The laws of two runs over streams, either of which may have stopped.
 ghost use Rattle.std.specs.Prelude.{◌≡◌, ◌⊎◌, ℕ, length, Ok, Err};
-ghost use Rattle.pcap_io.specs.declared.record.RecordFault.{RecordFault};
+ghost use Rattle.pcap.specs.declared.text.record.RecordFault.{RecordFault};
 ghost use Rattle.timeline.specs.Timeline.{Timeline};
 ghost use Rattle.timeline.specs.declared.source.Source.{Source};
 ghost use Rattle.timeline.specs.declared.source.Tap.{Tap};
-ghost use Rattle.overlay_settings.specs.Settings.{Settings as Told};
+ghost use Rattle.overlay.specs.Settings.{Settings as Told};
 ghost use Rattle.capture_run.specs.declared.fault.RunFault.TheVariants as faults;
 ghost use Rattle.stream_run.specs.Over.{IsRunOver};
 ghost use Rattle.stream_run.specs.Stage.{Drains, StandAt, no_texts};
@@ -15,7 +15,7 @@ ghost use Rattle.tenants_apart.specs.Own.{IsOneFront};
 ghost use Rattle.tenants_apart.specs.Runs.{whole, AreFirst, Hold};
 ghost use Rattle.tenants_apart.specs.Texts.{TellAlike, own_coming, replies_of};
 
-/// What [`stream_run::run_streams`] says that a run leaves, where it ended or a record's fault stopped it, is what leaves and is
+/// What [`stream_run::run`] says that a run leaves, where it ended or a record's fault stopped it, is what leaves and is
 /// told by the first of all events that come to it. So it is where a read failed; or there no header was written yet.
 pub fn left()
     ensures ended { (s : Told) (x : Inputs) (old new : Drains) →

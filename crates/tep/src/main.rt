@@ -6,7 +6,7 @@
 //!
 //! Proved: it starts `tep_program`.
 //!
-//! Why it is so: the gate runs a program crate on one list of words alone, here without words, so `tests/help.sh` asks the
+//! Why it is so: the gate runs a program crate on one list of words alone, here without words, so `tests/texts/help.sh` asks the
 //! built program for its help.
 #![tactic(auto)]
 

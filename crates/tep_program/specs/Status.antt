@@ -1,13 +1,13 @@
 -- The program's exit statuses. It states no standard.
-use Rattle.std.specs.Prelude.{◌≡◌, ◌≢◌, ◌≤◌, ◌⊎◌, ◌||◌, Bool, true, not, codes, find, if◌then◌else◌, is_some, ℕ, List, Option, None, Some}
+use Rattle.std.specs.Prelude.{◌≡◌, ◌≢◌, ◌≤◌, ◌⊎◌, true, not, find, is_some, ℕ, List, Option, None}
 use Rattle.std.specs.Prelude.{IsSomeAnd, []}
-use Rattle.std.specs.Str.{bytes_eq}
 use Rattle.clap.specs.Words.{IsAmong, Text, fault_of}
 use Rattle.clap.specs.declared.error.kind.ErrorKind.TheVariants.{DisplayHelp, DisplayVersion}
 use Rattle.command_line.specs.App.{tep_app}
 use Rattle.command_line.specs.Meaning.{AreTaken as AreTakenByClap, ComparesSomething, LendsToParts, Meaning, ReadsInputOnce}
-use Rattle.command_line.specs.Meaning.{compare, compare_worked, compares_nothing, input_uses}
+use Rattle.command_line.specs.Meaning.{compares_nothing, input_uses}
 use Rattle.command_line.specs.Meaning.{lends_to_a_whole, run, telling_meant, words_meant}
+use Rattle.compare_on_files.specs.Tables.{no_table_in}
 use Rattle.run_reports.specs.Names.{is_event_name}
 
 -- the first of these names that can be no event's
@@ -23,21 +23,6 @@ no_event_in _ = None
 -- each name can be an event's
 abbrev pub NamesEvents : Meaning → Type 0
 NamesEvents meaning = no_event_in meaning ≡ None
-
--- a table of what is compared has this name
-abbrev pub is_table_name : Text → Bool
-is_table_name name = bytes_eq name (codes "length") || bytes_eq name (codes "delay")
-
--- a name, where no table has it
-abbrev pub unknown_table : Option Text → Option Text
-unknown_table None = None
-unknown_table (Some name) = if is_table_name name then None else Some name
-
--- that by which a table is asked for
-abbrev pub no_table_in : Meaning → Option Text
-no_table_in (compare sent received within shift lists by ignores json) = unknown_table by
-no_table_in (compare_worked worked underlay ports within shift settings strict lists by ignores json) = unknown_table by
-no_table_in _ = None
 
 -- where one is asked for, there is such a table
 abbrev pub NamesTables : Meaning → Type 0

@@ -1,16 +1,11 @@
 //! Captures that have both directions: what the switch itself sent is left out of them.
-use both_ways::BothWays;
+use both_ways::{BothWays, WITHIN};
 use command_line::time_of;
-use overlay_config::settings_of;
 use program_faults::Failure;
 use run_counts::{Flows, RunCounts};
-use std::alloc::{AllocError, Global};
 use stream_run::TakesAll;
 use text_calls::tap_of;
 use timeline::Tap;
-
-/// How long behind its frame what the switch sent may come, in nanoseconds, where no other time is asked for.
-pub const WITHIN: u64 = 10_000_000;
 
 /// How long behind its frame what the switch sent may come, in nanoseconds. None: the captures have what came in alone. Who
 /// names a time asks for it.
@@ -22,26 +17,6 @@ pub fn within_of<'a>(both: bool, within: Option<&'a str>) -> Result<Option<u64>,
         },
         None if both => Ok(Some(WITHIN)),
         None => Ok(None),
-    }
-}
-
-/// What leaves that out of a run with this settings text. None: nothing is to be left out, or the text is refused, which the run
-/// tells.
-pub fn sieve_of(
-    alloc: Global,
-    settings: &[u8],
-    within: Option<u64>,
-) -> Result<Option<BothWays>, AllocError> {
-    let Some(within) = within else {
-        return Ok(None);
-    };
-    match settings_of(alloc, settings) {
-        Ok(settings) => {
-            let parts = settings.into_parts();
-            let sieve = BothWays::new(alloc, within, &parts.underlay)?;
-            Ok(Some(sieve))
-        }
-        Err(_) => Ok(None),
     }
 }
 

@@ -1,10 +1,11 @@
-//! The program `tep` from its words to its texts and exit status: its words, its look at what a run is to read, and its exit
-//! statuses. What it works out stands in the library `text_calls` and in `stream_run`, its files and its runs and merges on them
-//! in `program_files`, `runs_on_files` and `merge_on_files`.
+//! The program `tep` from its words to its texts and exit status: its words, what is told of its runs, and its exit statuses. What
+//! else it does each command has in a crate of its own, as `merge_on_files`, `compare_on_files` and `check_on_files`; what is told
+//! below a fault has `fault_notes`. What it works out stands in the library `text_calls` and in `stream_run`, its files and its runs
+//! on them in `program_files` and `runs_on_files`.
 //!
 //! Use first: [`start`] gets the words of the process; [`run`] is handed them.
 //!
-//! Specs to read: `specs/Status`.
+//! Specs to read: `specs/Status`, and `compare_on_files`' `specs/Tables`.
 //!
 //! Proved: each function is safe and ends. The exit status is 0, 1, 2 or 3: 0 only for words that are taken or that ask for
 //! help or the version, 1 only for words that are taken, 2 only for words that `clap`'s definition takes neither as the
@@ -16,34 +17,13 @@
 //! isn't text is refused as `words`, status 2; so is one that `clap` refuses, also where standard error can't be written.
 #![tactic(auto)]
 
-mod aside;
-mod causes;
-mod checks;
-mod compared;
 mod directions;
-mod echoes;
-mod interfaces;
-mod link;
-mod lonely;
-mod named;
-mod next_steps;
 mod nobody;
-mod notes;
 mod objects_file;
-mod open_files;
-mod opened;
 mod outbound;
-mod paired;
 mod program;
 mod progress;
-mod refusals;
-mod report;
-mod segments;
-mod swapped;
-mod tables;
 mod told_runs;
 mod told_texts;
-mod unknown_table;
-mod worked;
 
 pub use program::{run, start};

@@ -1,7 +1,7 @@
 //! Nobody, where captures have both directions.
 ghost use Rattle.std.specs.Prelude.{◌≡◌};
 
-use endpoint_core::{ChangeFault, Course, Endpoint};
+use endpoint_core::{ChangeFault, Endpoint, Forwarding};
 use filter_db::Place;
 use stream_run::Watch;
 use timeline::Event;
@@ -19,10 +19,15 @@ impl Watch for Nobody {
     ghost ends = { λ old state new. new ≡ old };
 
     #[inline]
-    fn see(&mut self, _endpoint: &Endpoint, _number: u64, _event: &Event, _came: &Course) {}
+    fn see(&mut self, _endpoint: &Endpoint, _number: u64, _event: &Event, _came: &Forwarding) {}
 
     #[inline]
-    fn hear_decision(&mut self, _endpoint: &Endpoint, _course: &Course, _places: &[Place]) {}
+    fn hear_decision(
+        &mut self,
+        _endpoint: &Endpoint,
+        _forwarding: &Forwarding,
+        _places: &[Place],
+    ) {}
 
     #[inline]
     fn hear_reply(&mut self, _reply: Result<(), ChangeFault>) {}

@@ -7,7 +7,7 @@ ghost use Rattle.std.specs.Prelude.{None};
 use crate::directions::LeavesOut;
 use decision_objects::Objects;
 use overlay_config::TimedChange;
-use pcap_stream::{BlockOutput, StdOutput};
+use pcap::stream::{BlockOutput, StdOutput};
 use program_faults::{Failure, OutputFile, SystemFault};
 use program_files::{OutputDevice, path_of};
 use std::alloc::AllocError;

@@ -5,21 +5,18 @@ ghost use Rattle.command_line.specs.Meaning.{HasDepth, meaning_of};
 ghost use Rattle.program_faults.specs.Status.{failure_status_of};
 ghost use Rattle.tep_program.specs.Status.{IsDoneStatus, IsStatusOf, first_no_event, no_event_in};
 
-use crate::causes::{tell_causes, tell_failed_besides};
-use crate::checks::check;
-use crate::compared::{Compared, compare};
 use crate::directions::within_of;
-use crate::next_steps::tell_next_step;
-use crate::notes::tell_notes;
-use crate::open_files::tell_open_files;
+use crate::nobody::Nobody;
 use crate::told_runs::{Asked, run_and_tell};
-use crate::unknown_table::{no_table, no_table_name};
-use crate::worked::{Worked, compare_worked};
 use capture_run::{RunFault, of_settings};
+use check_on_files::check;
 use clap::error::ErrorKind as Refusal;
 use command_line::{Line, LineFault, line_of};
+use compare_on_files::{Compared, Worked, compare, compare_worked, no_table, no_table_name};
+use explanation::sample::sample;
 use explanation::{Values, explain_bytes};
-use json_forms::Kind;
+use fault_notes::{tell_causes, tell_failed_besides, tell_next_step, tell_notes, tell_open_files};
+use json_lines::kinds::Kind;
 use merge_on_files::{TextsAsked, merge};
 use overlay_config::migrate;
 use page_on_files::make_page;
@@ -30,7 +27,6 @@ use program_files::{
 use run_progress::Screen;
 use run_reports::is_event_name;
 use runs_on_files::print_digests;
-use sample_run::sample;
 use split_on_files::split;
 use std::alloc::{AllocError, Global};
 use std::env;
@@ -195,6 +191,7 @@ fn perform<'a, R: Files + Input + AllocGlobal + Print + Eprint + Clock + Screen>
             json,
         } => check(
             rt,
+            &mut Nobody,
             Shown::of(*json, Kind::Looks),
             *settings,
             *changes,

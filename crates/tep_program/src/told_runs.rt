@@ -1,21 +1,22 @@
 //! Runs, with whoever looks on for what is told besides their outputs.
 ghost use Rattle.std.specs.Prelude.{◌≡◌, [], Ok, IfSome};
 ghost use Rattle.overlay_config.specs.Change.{IsRising, changes_in};
-ghost use Rattle.overlay_settings.specs.Rules.{EachBehind};
+ghost use Rattle.overlay.specs.Rules.{EachBehind};
 
-use crate::directions::{LeavesOut, sieve_of, tell_left_out};
+use crate::directions::{LeavesOut, tell_left_out};
 use crate::nobody::Nobody;
 use crate::objects_file::{RunObjects, finish_objects, leave_objects, objects_of_run};
 use crate::outbound::tell_outbound;
 use crate::progress::progress_of;
-use crate::told_texts::{Counted, print_told, tell_all};
+use crate::told_texts::{LookedOn, print_told, tell_all};
+use both_ways::sieve_of;
 use overlay_config::TimedChange;
 use program_faults::Failure;
 use program_files::{Destination, FailedOutputs, Names};
 use run_counts::RunCounts;
 use run_progress::{Beside as BesideProgress, Progress, Screen};
 use run_reports::{Onlooker, Reports};
-use runs_on_files::{Ran, Scope, Texts, run_on_files, run_part, run_unwritten};
+use runs_on_files::{Job, ListedPart, Ran, Scope, Texts, run_on_files};
 use segment_set::SegmentSet;
 use std::alloc::{AllocError, Global};
 use std::io::{Input, Write};
@@ -62,7 +63,7 @@ impl Asked<'_, '_> {
 
 /// A run on captures, and what is asked for of it.
 #[derive(Clone, Copy)]
-struct Job<'j, 'n, 'a> {
+struct AskedJob<'j, 'n, 'a> {
     names: Names<'n, 'a>,
     texts: &'j Texts,
     /// Where its outputs are written, if they are.
@@ -83,7 +84,7 @@ pub fn run_and_tell<'a, R: Files + Input + AllocGlobal + Print + Eprint + Clock 
     let texts = Texts::read(rt, names)?;
     let segments = segments_of(asked.segments)?;
     let progress = progress_of(rt, names, asked.quiet);
-    let job = Job {
+    let job = AskedJob {
         names,
         texts: &texts,
         folder,
@@ -106,7 +107,7 @@ pub fn run_and_tell<'a, R: Files + Input + AllocGlobal + Print + Eprint + Clock 
 /// then nobody looks on.
 fn run_plain<'r, 'a, R: Files + Input + AllocGlobal + Print + Eprint + Clock>(
     rt: &'r R,
-    job: Job<'_, '_, 'a>,
+    job: AskedJob<'_, '_, 'a>,
     progress: Option<Progress<'r, R>>,
     failed: &mut FailedOutputs,
 ) -> Result<Ran<R::File>, Failure<'a>> {
@@ -127,21 +128,23 @@ fn run_taken<
     T: Watch + Drop,
 >(
     rt: &'r R,
-    job: Job<'_, '_, 'a>,
+    job: AskedJob<'_, '_, 'a>,
     sieve: S,
     nobody: T,
     progress: Option<Progress<'r, R>>,
     failed: &mut FailedOutputs,
 ) -> Result<(Ran<R::File>, S), Failure<'a>> {
-    let changes = job.texts.changes_read(rt.alloc())?;
-    let told = match &changes {
+    let read = job.texts.changes_read(rt.alloc())?;
+    let changes = match &read {
         Some(changes) => Some(changes.as_slice()),
         None => None,
     };
     if job.asked.is_nothing() {
-        return run_shown(rt, job, told, sieve, nobody, progress, failed);
+        let objects = objects_of_run(rt, job.folder, job.asked.json, changes.unwrap_or(&[]))?;
+        let shown = shown_to(nobody, objects, progress);
+        return run_shown(rt, job, changes, sieve, shown, failed);
     }
-    run_watched(rt, job, told, sieve, progress, failed)
+    run_watched(rt, job, changes, sieve, progress, failed)
 }
 
 /// The same where nothing is told behind it: its objects are written, and how far it is is shown.
@@ -154,20 +157,18 @@ fn run_shown<
     T: Watch + Drop,
 >(
     rt: &'r R,
-    job: Job<'_, '_, 'a>,
-    told: Option<&'t [TimedChange]>,
+    job: AskedJob<'_, '_, 'a>,
+    changes: Option<&'t [TimedChange]>,
     sieve: S,
-    nobody: T,
-    progress: Option<Progress<'r, R>>,
+    shown: BesideProgress<'r, Beside<T, RunObjects<'r, 't, R>>, R>,
     failed: &mut FailedOutputs,
 ) -> Result<(Ran<R::File>, S), Failure<'a>>
-    requires told { IfSome told (λ t. changes_in job.texts.now.changes.items ≡ Ok t.now) }
-    requires rising { IfSome told (λ t. EachBehind IsRising [] t.now) }
+    requires told { IfSome changes (λ t. changes_in job.texts.now.changes.items ≡ Ok t.now) }
+    requires rising { IfSome changes (λ t. EachBehind IsRising [] t.now) }
 {
-    let objects = objects_of_run(rt, job.folder, job.asked.json, told.unwrap_or(&[]))?;
-    let mut shown = shown_to(nobody, objects, progress);
+    let mut shown = shown;
     let mut sieve = sieve;
-    let run = run_asked(rt, job, told, &mut sieve, &mut shown, failed);
+    let run = run_asked(rt, job, changes, &mut sieve, &mut shown, failed);
     shown.finish();
     let BesideProgress { watch, .. } = shown;
     let Beside { other: objects, .. } = watch;
@@ -209,27 +210,27 @@ fn run_watched<
     S: Sieve + LeavesOut + Drop,
 >(
     rt: &'r R,
-    job: Job<'_, '_, 'a>,
-    told: Option<&'t [TimedChange]>,
+    job: AskedJob<'t, 't, 'a>,
+    changes: Option<&'t [TimedChange]>,
     sieve: S,
     progress: Option<Progress<'r, R>>,
     failed: &mut FailedOutputs,
 ) -> Result<(Ran<R::File>, S), Failure<'a>>
-    requires told { IfSome told (λ t. changes_in job.texts.now.changes.items ≡ Ok t.now) }
-    requires rising { IfSome told (λ t. EachBehind IsRising [] t.now) }
+    requires told { IfSome changes (λ t. changes_in job.texts.now.changes.items ≡ Ok t.now) }
+    requires rising { IfSome changes (λ t. EachBehind IsRising [] t.now) }
 {
     let asked = job.asked;
-    let objects = objects_of_run(rt, job.folder, asked.json, told.unwrap_or(&[]))?;
+    let objects = objects_of_run(rt, job.folder, asked.json, changes.unwrap_or(&[]))?;
     let watch = Beside {
         watch: Beside {
-            watch: onlooker_of(rt.alloc(), asked, told.unwrap_or(&[]), job.segments)?,
+            watch: onlooker_of(rt.alloc(), asked, changes.unwrap_or(&[]), job.segments)?,
             other: tunnels_of(rt.alloc(), asked)?,
         },
         other: talkers_of(rt.alloc(), asked)?,
     };
     let mut beside = shown_to(watch, objects, progress);
     let mut sieve = sieve;
-    let run = run_asked(rt, job, told, &mut sieve, &mut beside, failed);
+    let run = run_asked(rt, job, changes, &mut sieve, &mut beside, failed);
     beside.finish();
     let BesideProgress { watch, .. } = beside;
     let Beside {
@@ -245,17 +246,17 @@ fn run_watched<
         other: tunnels,
     } = watch;
     let Onlooker { reports, counts } = watch;
-    let counted = Counted {
-        counts,
-        tunnels,
-        talkers,
-    };
     match run {
         Ok(ran) => {
             let mut ran = ran;
             let written = finish_objects(objects, &sieve, ran.cut.as_slice());
             let found = tell_missing(rt, asked.why, &reports);
-            let told = tell_all(rt, job.folder, asked, reports, counted, &sieve, &mut ran);
+            let looked = LookedOn {
+                onlooker: Onlooker { reports, counts },
+                tunnels,
+                talkers,
+            };
+            let told = tell_all(rt, job.folder, asked, looked, &sieve, &mut ran);
             match written.and(told).and(found) {
                 Ok(()) => Ok((ran, sieve)),
                 Err(failure) => Err(failure),
@@ -328,52 +329,57 @@ fn talkers_of(alloc: Global, asked: Asked<'_, '_>) -> Result<Option<Talkers>, Al
     }
 }
 
-/// Runs on captures, all segments, or those of a list as a part, and writes nothing where no folder is named. `told` are the
-/// changes, where their text was read before.
+/// Runs on captures, all segments, or those of a list as a part, and writes nothing where no folder is named. `changes`
+/// are those of their text, where it was read before.
 fn run_asked<'a, R: Files + Input + AllocGlobal, S: Sieve, T: Watch>(
     rt: &R,
-    job: Job<'_, '_, 'a>,
-    told: Option<&[TimedChange]>,
+    job: AskedJob<'_, '_, 'a>,
+    changes: Option<&[TimedChange]>,
     sieve: &mut S,
     watch: &mut T,
     failed: &mut FailedOutputs,
 ) -> Result<Ran<R::File>, Failure<'a>>
-    requires told { IfSome told (λ t. changes_in job.texts.now.changes.items ≡ Ok t.now) }
-    requires rising { IfSome told (λ t. EachBehind IsRising [] t.now) }
+    requires told { IfSome changes (λ t. changes_in job.texts.now.changes.items ≡ Ok t.now) }
+    requires rising { IfSome changes (λ t. EachBehind IsRising [] t.now) }
 {
-    let Job {
+    let AskedJob {
         names,
         texts,
         folder,
         asked,
         segments,
     } = job;
-    let Some(folder) = folder else {
-        return run_unwritten(rt, names, texts, told, segments, sieve, watch);
+    let job = Job {
+        names,
+        texts,
+        changes,
+        folder: destination_of(folder, asked),
+        scope: scope_of(asked, segments),
     };
-    let to = Destination {
-        name: folder,
-        objects: asked.json,
-    };
-    let Some(list) = asked.segments else {
-        let whole = Scope::Whole;
-        let done = run_on_files(
-            rt,
-            names,
-            texts,
-            told,
-            Some(to),
-            whole,
-            sieve,
-            watch,
-            failed,
-        )?;
-        return Ok(Ran::whole(rt.alloc(), done.cut, done.outbound));
-    };
-    let within = asked.within;
-    run_part(
-        rt, names, texts, told, to, list, segments, within, sieve, watch, failed,
-    )
+    run_on_files(rt, job, sieve, watch, failed)
+}
+
+/// Where the outputs of a run are written, if they are.
+fn destination_of<'f>(folder: Option<&'f str>, asked: Asked<'_, '_>) -> Option<Destination<'f>> {
+    match folder {
+        Some(name) => Some(Destination {
+            name,
+            objects: asked.json,
+        }),
+        None => None,
+    }
+}
+
+/// Which segments are run, where the list means these.
+fn scope_of<'s>(asked: Asked<'_, 's>, segments: &'s SegmentSet) -> Scope<'s> {
+    match asked.segments {
+        Some(list) => Scope::Part(ListedPart {
+            list,
+            segments,
+            both: asked.within,
+        }),
+        None => Scope::Whole,
+    }
 }
 
 /// Says of each name that no event had that none did, but for the last, which is the failure.

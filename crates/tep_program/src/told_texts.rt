@@ -1,11 +1,11 @@
 //! What is told of a run that is done, besides its outputs.
 use crate::directions::{LeavesOut, records_at};
 use crate::told_runs::Asked;
-use json_forms::Kind;
+use json_lines::kinds::Kind;
 use program_faults::{Failure, OutputFile};
 use program_files::{Shown, leave_text, print_shown};
 use run_counts::{RunCounts, put_cuts};
-use run_reports::Reports;
+use run_reports::{Onlooker, Reports};
 use runs_on_files::Ran;
 use std::alloc::{AllocError, Global};
 use std::rt::Files;
@@ -13,10 +13,10 @@ use talkers::Talkers;
 use timeline::Tap;
 use tunnel_traffic::TunnelTraffic;
 
-/// Whoever counted while a run went, as far as that is asked for.
+/// Whoever looked on while a run went, as far as that is asked for.
 #[derive(Drop)]
-pub(crate) struct Counted {
-    pub(crate) counts: Option<RunCounts>,
+pub(crate) struct LookedOn<'n, 'a> {
+    pub(crate) onlooker: Onlooker<'n, 'a>,
     pub(crate) tunnels: Option<TunnelTraffic>,
     pub(crate) talkers: Option<Talkers>,
 }
@@ -27,19 +27,19 @@ pub(crate) fn tell_all<R: Files + AllocGlobal + Print, L: LeavesOut>(
     rt: &R,
     folder: Option<&str>,
     asked: Asked<'_, '_>,
-    reports: Reports<'_, '_>,
-    counted: Counted,
+    looked: LookedOn<'_, '_>,
     sieve: &L,
     ran: &mut Ran<R::File>,
 ) -> Result<(), Failure<'static>> {
+    let LookedOn {
+        onlooker,
+        tunnels,
+        talkers,
+    } = looked;
+    let Onlooker { reports, counts } = onlooker;
     let Ok((told, tables)) = reports.into_texts() else {
         return Err(Failure::from(AllocError));
     };
-    let Counted {
-        counts,
-        tunnels,
-        talkers,
-    } = counted;
     let summary = summary_of(rt.alloc(), counts, tunnels, sieve, ran.cut.as_slice())?;
     let talks = talks_text(rt.alloc(), talkers)?;
     let left = match leave_texts(rt, folder, asked, tables.as_slice(), summary.as_slice()) {

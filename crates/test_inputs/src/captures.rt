@@ -2,7 +2,7 @@
 //!
 //! Those that a run should give are put together by `put_header` and `put_record`, whose octets are proved.
 use crate::octets::octets_of;
-use pcap_io::{put_header, put_record};
+use pcap::text::{put_header, put_record};
 use std::alloc::{AllocError, Global};
 use std::test::Fail;
 

@@ -1,7 +1,7 @@
 //! An input that may go on without end.
 ghost use Rattle.std.specs.Prelude.{None};
 
-use pcap_stream::{DeviceFault, Input};
+use pcap::stream::{DeviceFault, Input};
 
 /// What an input gives, and behind its end zero octets, one a read, or nothing.
 #[derive(Drop)]

@@ -1,7 +1,7 @@
 //! A text that comes in pieces.
 ghost use Rattle.std.specs.Prelude.{Some};
 
-use pcap_stream::{DeviceFault, Input};
+use pcap::stream::{DeviceFault, Input};
 
 /// Octets that come at most so many at a time, and a read that fails.
 #[derive(Drop)]

@@ -1,7 +1,7 @@
 //! An output over memory that takes little, and stops once.
 ghost use Rattle.std.specs.Prelude.{None};
 
-use pcap_stream::{DeviceFault, Output, WriteFault};
+use pcap::stream::{DeviceFault, Output, WriteFault};
 use std::alloc::Global;
 
 /// Room that takes at most so many octets a call. One call fails, or takes none.

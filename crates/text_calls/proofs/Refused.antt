@@ -4,7 +4,7 @@ use Rattle.config_text.specs.declared.fault.SettingsFault.{SettingsFault}
 use Rattle.config_text.specs.declared.fault.SettingsFault.TheVariants as text
 use Rattle.overlay_config.specs.Fault.{Meaning, GivesAs}
 use Rattle.overlay_config.specs.Settings.{Settings}
-use Rattle.overlay_settings.specs.declared.change.TimedChange.{TimedChange}
+use Rattle.overlay.specs.declared.settings.change.TimedChange.{TimedChange}
 use Rattle.capture_run.specs.Fault.{of_settings, of_changes}
 use Rattle.text_calls.specs.Check.{Reads, both}
 

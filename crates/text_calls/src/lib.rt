@@ -11,6 +11,9 @@
 //! unless memory was refused; in two steps, what both mean or that fault, and the line of what was read. The exit status of a
 //! fault of a run over streams is the stated one, and such a fault keeps it where the program gives up for it. A list of
 //! segments is asked for as it means, or refused with its fault.
+//!
+//! Proved besides:
+//! - Ports are numbered in their order: `tap_of`.
 #![tactic(auto)]
 
 mod check;

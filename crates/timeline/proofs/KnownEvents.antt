@@ -2,10 +2,10 @@
 use Rattle.std.proofs.Common.{ℕ, ◌+◌, ◌≤◌, max, List, [], ◌∷◌, ◌++◌, length, arith, Vec, Result, Ok, Err}
 use Rattle.std.specs.List.{AllByRecursion, cons_option, flat_map}
 use Rattle.std.specs.declared.alloc.Global.{Global}
-use Rattle.pcap_io.specs.Capture.{opened}
-use Rattle.pcap_io.specs.Reading.{Reading}
-use Rattle.pcap_io.specs.Record.{IsWithinLimits, Record, last_moment}
-use Rattle.pcap_io.specs.declared.header.CaptureFault.{CaptureFault}
+use Rattle.pcap.specs.Capture.{opened}
+use Rattle.pcap.specs.Reading.{Reading}
+use Rattle.pcap.specs.Record.{IsWithinLimits, Record, last_moment}
+use Rattle.pcap.specs.declared.text.header.CaptureFault.{CaptureFault}
 use Rattle.timeline.specs.Events.{IsEventOf, IsTapOf, all_events, change_events, events_of, record_events}
 use Rattle.timeline.specs.Inputs.{HasBoundedRecords, inputs, inputs_from, opened_by, opened_captures}
 use Rattle.timeline.specs.declared.capture.Opened.{Opened}

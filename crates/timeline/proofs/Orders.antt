@@ -7,7 +7,7 @@ use Rattle.std.specs.Ordering.{is_lt, nat_cmp}
 use Rattle.std.proofs.lemmas.Bool.{eqb-true, eq-eqb, ltb-true, ltb-false, ne_eqb}
 use Rattle.std.proofs.lemmas.Bool.Decides.{nat_tests}
 use Rattle.std.proofs.lemmas.List.Sorted.{IsNonDecreasingBy-from_sort}
-use Rattle.pcap_io.specs.Record.{Record}
+use Rattle.pcap.specs.Record.{Record}
 use Rattle.timeline.specs.Events.{record_events}
 use Rattle.timeline.specs.Order.{at, CapturesRise, IsRising, KeepsWhatRises, merged, MergedIsInOrder, NothingElseIsInOrder, put_in}
 use Rattle.timeline.specs.declared.event.Event.{Event}

@@ -1,7 +1,7 @@
 -- The events of a capture tell its records.
 use Rattle.std.proofs.Common.{◌≡◌, ◌∙◌, refl, ap, ℕ, zero, suc, ◌+◌, max, List, [], ◌∷◌, length, take, arith, Option, None, Some, option_map}
 use Rattle.std.specs.Prelude.{slice_get}
-use Rattle.pcap_io.specs.Record.{Record}
+use Rattle.pcap.specs.Record.{Record}
 use Rattle.timeline.specs.Events.{TellsEachRecord, event_behind, greatest, record_events}
 use Rattle.timeline.specs.declared.event.Event.{Event}
 use Rattle.timeline.specs.declared.event.Happening.TheVariants as happenings

@@ -1,7 +1,7 @@
 -- The events of each source. It states no standard.
 use Rattle.std.specs.Prelude.{◌≡◌, ◌<◌, ◌≤◌, ℕ, ◌+◌, ◌^◌, max, List, [], ◌∷◌, ◌++◌, length, slice_get, take, option_map}
 use Rattle.std.specs.List.{flat_map}
-use Rattle.pcap_io.specs.Record.{Record, last_moment, longest}
+use Rattle.pcap.specs.Record.{Record, last_moment, longest}
 use Rattle.timeline.specs.Captured.{Captured}
 use Rattle.timeline.specs.declared.capture.Opened.{Opened}
 use Rattle.timeline.specs.declared.event.Event.{Event}

@@ -1,10 +1,10 @@
 -- What is wrong with captures, in order. It states no standard.
 use Rattle.std.specs.Prelude.{◌≡◌, ℕ, ◌+◌, List, ◌++◌, length, Option, Some, None, Result, Ok, Err}
 use Rattle.std.specs.List.{filter_map}
-use Rattle.pcap_io.specs.Capture.{opened}
-use Rattle.pcap_io.specs.Next.{End, Whole, Cut, Faulty}
-use Rattle.pcap_io.specs.Reading.{Reading}
-use Rattle.pcap_io.specs.declared.header.CaptureFault.{CaptureFault}
+use Rattle.pcap.specs.Capture.{opened}
+use Rattle.pcap.specs.Next.{End, Whole, Cut, Faulty}
+use Rattle.pcap.specs.Reading.{Reading}
+use Rattle.pcap.specs.declared.text.header.CaptureFault.{CaptureFault}
 use Rattle.timeline.specs.Inputs.{Input, opened_captures}
 use Rattle.timeline.specs.declared.capture.Opened.{Opened}
 use Rattle.timeline.specs.declared.fault.TimelineFault.{TimelineFault}

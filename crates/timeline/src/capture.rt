@@ -1,8 +1,8 @@
 //! The captures of a run: opened, and then read.
 ghost use Rattle.std.specs.Prelude.{◌≡◌, ◌≤◌, ◌++◌, length, slice_get, Some, None, [], IfOk, IfErr, OnOk, OnErr};
 ghost use Rattle.std.specs.List.{AllByRecursion};
-ghost use Rattle.pcap_io.specs.Calls.{ends_cut, is_cut};
-ghost use Rattle.pcap_io.specs.Capture.{opened};
+ghost use Rattle.pcap.specs.Calls.{ends_cut, is_cut};
+ghost use Rattle.pcap.specs.Capture.{opened};
 ghost use Rattle.timeline.specs.Events.{events_of, record_events};
 ghost use Rattle.timeline.specs.Faults.{IsFault, ended_by, opening_faults, record_fault, refused_by};
 ghost use Rattle.timeline.specs.Inputs.{HasBoundedRecords, inputs, opened_by, opened_captures};
@@ -12,7 +12,7 @@ use crate::event::{Captured, Event, Happening};
 use crate::fault::TimelineFault;
 use crate::source::Tap;
 use crate::timeline::Cut;
-use pcap_io::Capture;
+use pcap::text::Capture;
 use std::alloc::Global;
 
 /// A capture that was opened.

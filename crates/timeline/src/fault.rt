@@ -3,7 +3,7 @@ ghost use Rattle.std.specs.Prelude.{◌≡◌};
 ghost use Rattle.timeline.specs.declared.fault.TimelineFault.TheVariants.{OutOfMemory};
 
 use crate::source::Tap;
-use pcap_io::{CaptureFault, RecordFault};
+use pcap::text::{CaptureFault, RecordFault};
 use std::alloc::{AllocError, AllocFailed};
 use thiserror::Error;
 

@@ -11,6 +11,11 @@
 //! first fault is answered, of the openings, then of the records; unless memory was refused. There is one such order, a
 //! capture's events stay in theirs, and each is of its record ([`laws`]).
 //!
+//! Proved besides:
+//! - There is one such order: `laws::one_order`. A capture's events stay in theirs: `captures_in_order`. Each is of its
+//!   record, with its number and at the greatest moment up to it: `each_record`.
+//! - The words `c`, `p1`, `u`: `Tap`, `Source`.
+//!
 //! Why it is so: the order of events is defined twice and shown to be one, as a relation (moments never fall, and the events of
 //! each moment are the same in the same order) and as a function. Moments of captures are raised to the greatest so far; those
 //! of changes are taken as they are, since a text whose moments fall is refused. A fault and a cut rest name a [`Tap`] (a local

@@ -11,10 +11,10 @@ use Rattle.std.specs.FinMap.{empty, get, get-empty}
 use Rattle.filter_db.specs.Place.{same_place}
 use Rattle.filter_db.specs.declared.place.Place.{Place}
 use Rattle.filter_db.specs.declared.place.Place.TheVariants.{Local}
-use Rattle.vlan_ports.specs.declared.port.PortRule.{PortRule}
-use Rattle.vlan_ports.specs.declared.member.Egress.{Egress}
-use Rattle.vlan_ports.specs.Ports.{Ports, Members, members_at, no_port, is_up}
-use Rattle.vlan_ports.specs.Row.{Row, row_at, is_member, member_ports, is_up as row_is_up, serves as row_serves}
+use Rattle.overlay.specs.declared.ports.port.PortRule.{PortRule}
+use Rattle.overlay.specs.declared.ports.member.Egress.{Egress}
+use Rattle.overlay.specs.Ports.{Ports, Members, members_at, no_port, is_up}
+use Rattle.overlay.specs.Row.{Row, row_at, is_member, member_ports, is_up as row_is_up, serves as row_serves}
 use Rattle.tunnel_learning.specs.declared.bridge.Bridge.{Bridge}
 use Rattle.tunnel_learning.specs.Bridge.{config_of, is_local_outlet, is_up_at, local_places, serves}
 use Rattle.tunnel_learning.specs.Members.{IsMember}

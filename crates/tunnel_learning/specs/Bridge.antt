@@ -8,14 +8,14 @@ use Rattle.std.specs.Prelude.{map, slice_index, slice_index_or, is_some, Option,
 use Rattle.std.specs.List.{filter, range_with_len}
 use Rattle.std.specs.Option.{unwrap_or}
 use Rattle.std.specs.FinMap.{empty, get}
-use Rattle.frame_view.specs.Address.{is_group}
-use Rattle.frame_view.specs.Frame.{Frame}
-use Rattle.frame_view.specs.declared.reason.Reason.{Reason}
-use Rattle.frame_view.specs.declared.reason.Reason.TheVariants.{SamePlace, Horizon, Unreachable, NoOutlet}
-use Rattle.ip_udp_view.specs.declared.addr.Tunnel.{Tunnel}
-use Rattle.ip_udp_view.specs.declared.addr.Tunnel.TheVariants.{Vxlan, Geneve}
-pub use Rattle.flood_lists.specs.declared.remote.Remote.{Remote as Target}
-use Rattle.vlan_ports.specs.Ports.{Members, members_at}
+use Rattle.wire.specs.Address.{is_group}
+use Rattle.wire.specs.Frame.{Frame}
+use Rattle.wire.specs.declared.ether.reason.Reason.{Reason}
+use Rattle.wire.specs.declared.ether.reason.Reason.TheVariants.{SamePlace, Horizon, Unreachable, NoOutlet}
+use Rattle.wire.specs.declared.ip_udp.addr.Tunnel.{Tunnel}
+use Rattle.wire.specs.declared.ip_udp.addr.Tunnel.TheVariants.{Vxlan, Geneve}
+pub use Rattle.overlay.specs.declared.flood.remote.Remote.{Remote as Target}
+use Rattle.overlay.specs.Ports.{Members, members_at}
 use Rattle.filter_db.specs.declared.place.Place.{Place}
 use Rattle.filter_db.specs.declared.place.Place.TheVariants.{Local, Remote}
 use Rattle.filter_db.specs.Place.{same_place}

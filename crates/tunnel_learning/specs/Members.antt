@@ -1,6 +1,6 @@
 -- A member port of a row. It states no standard.
 use Rattle.std.specs.Prelude.{◌≤◌, ℕ, IsTrue, length}
-use Rattle.vlan_ports.specs.Row.{Row, is_member}
+use Rattle.overlay.specs.Row.{Row, is_member}
 
 -- there is a port of this number, and it is a member
 abbrev pub IsMember : Row → ℕ → Type 0

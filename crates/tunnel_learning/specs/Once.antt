@@ -1,7 +1,7 @@
 -- No frame leaves twice at one place. It states no standard.
 use Rattle.std.specs.Prelude.{◌≢◌, List, IfOk}
 use Rattle.std.specs.List.{AllPairs}
-use Rattle.frame_view.specs.Frame.{Frame}
+use Rattle.wire.specs.Frame.{Frame}
 use Rattle.filter_db.specs.declared.place.Place.{Place}
 use Rattle.filter_db.specs.Table.{Table}
 use Rattle.tunnel_learning.specs.Bridge.{Config, Target, outlets}

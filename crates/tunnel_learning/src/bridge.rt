@@ -3,10 +3,10 @@ ghost use Rattle.std.specs.Prelude.{◌≡◌, ◌≤◌, IsTrue, length};
 ghost use Rattle.tunnel_learning.specs.Bridge.{config_of, is_up_at, serves, group_of, in_one_group, is_shut};
 
 use filter_db::Place;
-use flood_lists::FloodList;
-use frame_view::Vid;
-use ip_udp_view::Tunnel;
-use vlan_ports::PortSet;
+use overlay::flood::FloodList;
+use overlay::ports::PortSet;
+use wire::ether::Vid;
+use wire::ip_udp::Tunnel;
 
 /// The configuration of one segment's bridge.
 #[derive(Clone, Copy)]

@@ -12,6 +12,10 @@
 //! whatever stands in them. So it is of a frame whose destination's place is told. The outlets are distinct places
 //! (`laws::once_at_each_place`).
 //!
+//! Proved besides:
+//! - That is at most two calls of the tables, which compare an address at most 122 times, whatever stands in them: the
+//!   same call.
+//!
 //! Why it is so: the answer is a list of places, or the reason. The bridge looks at a port's state and membership when the frame
 //! comes, so a fixed entry at a port that is down or no member makes its address unreachable.
 #![tactic(auto)]

@@ -4,7 +4,7 @@ ghost use Rattle.filter_db.specs.Segment.{segment_at, aged_all};
 ghost use Rattle.filter_db.specs.Work.{most_compared};
 ghost use Rattle.tunnel_learning.specs.Bridge.{config_of, everywhere, is_local_outlet, learned, local_places, outlets};
 ghost use Rattle.tunnel_learning.specs.Bridge.{remote_places, to_place, toward};
-ghost use Rattle.vlan_ports.specs.Row.{row_at};
+ghost use Rattle.overlay.specs.Row.{row_at};
 ghost use Rattle.tunnel_learning.specs.declared.bridge.Bridge.{Bridge as ABridge};
 ghost use Rattle.filter_db.specs.declared.place.Place.TheVariants.{Local};
 ghost use Rattle.tunnel_learning.specs.Members.{IsMember};
@@ -12,8 +12,8 @@ ghost use Rattle.tunnel_learning.specs.Verdict.{put_or};
 
 use crate::{Bridge, Outlets};
 use filter_db::{Place, Tables};
-use frame_view::{BridgeFrame, Reason};
-use vlan_ports::Row;
+use overlay::ports::Row;
+use wire::ether::{BridgeFrame, Reason};
 
 /// A frame came from a place at a moment: learns where its source stands, where the segment learns (IEEE 802.1Q, 8.7),
 /// and then puts where it goes (8.6 and 8.8, with split horizon among the remotes of a group) into a list that is emptied first.

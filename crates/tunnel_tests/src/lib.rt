@@ -7,7 +7,7 @@
 //! What is expected comes from RFC 768, 791, 1112, 7348, 8200, 8926 and IEEE 802.1Q and from worked examples, never from a run;
 //! the addresses of IPv6 are those of RFC 5952.
 //!
-//! What arrives in packets and what is sent in them are rows of `tests/rows.sh`, since those need no proof.
+//! What arrives in packets and what is sent in them are rows of `tests/run/rows.sh`, since those need no proof.
 #![tactic(auto)]
 
 #[cfg(test)]

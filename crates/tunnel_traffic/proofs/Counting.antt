@@ -1,27 +1,27 @@
 -- Rows that are counted one after another, and a whole run.
 use Rattle.std.proofs.Common.{◌≡◌, ◌∙◌, ap, sym, refl, ℕ, zero, suc, ◌<◌, List, [], ◌∷◌, ◌++◌, append-nil, append_assoc, length, map, take, get_or, Option, Some, None, Result, Ok, Err, arith}
 use Rattle.std.specs.List.{FoldsTo, flat_map}
-use Rattle.frame_view.proofs.FirstLemmas.{same_Ok}
-use Rattle.frame_view.specs.declared.reason.Reason.{Reason}
+use Rattle.wire.proofs.FirstLemmas.{same_Ok}
+use Rattle.wire.specs.declared.ether.reason.Reason.{Reason}
 use Rattle.filter_db.specs.declared.place.Place.{Place}
 use Rattle.encapsulate.specs.Remote.{sizes}
-use Rattle.overlay_settings.specs.declared.change.Change.{Change}
+use Rattle.overlay.specs.declared.settings.change.Change.{Change}
 use Rattle.timeline.specs.declared.event.Event.{Event}
-use Rattle.endpoint_state.specs.Settings.{Settings}
+use Rattle.endpoint_core.specs.Settings.{Settings}
 use Rattle.endpoint_core.specs.Decision.{Sent}
 use Rattle.endpoint_core.specs.Step.{Answer, opened}
 use Rattle.segment_set.specs.Segments.{Segments}
 use Rattle.stream_run.specs.Sights.{Sight, sights}
-use Rattle.traffic_rows.specs.Rows.{Rows, counted, counted_all}
-use Rattle.traffic_rows.specs.Traffic.{left_of}
-use Rattle.traffic_rows.specs.declared.rows.TrafficRow.{TrafficRow}
-use Rattle.traffic_rows.proofs.Shown.{all_shown}
+use Rattle.ranked_rows.proofs.Shown as ranked
+use Rattle.tunnel_traffic.specs.Key.{rank}
+use Rattle.tunnel_traffic.specs.TrafficRows.{Rows, TrafficRow, counted_all}
+use Rattle.tunnel_traffic.specs.Traffic.{left_of, no_traffic, traffic_with}
+use Rattle.tunnel_traffic.proofs.Sums.{all_shown}
 use Rattle.tunnel_traffic.specs.Run.{IsCounted, remotes_in, reply_rows, tunnels_of, unknown_in, where_told}
 use Rattle.tunnel_traffic.specs.Tunnels.{Sees, SeesReply, Tunnels, answer_rows, outcome_rows, remotes_of, rows_at, sent_rows, unknown_of}
 
-pub counted_append : (table : Rows) (xs ys : List TrafficRow) → counted_all table (xs ++ ys) ≡ counted_all (counted_all table xs) ys
-counted_append table [] ys = refl
-counted_append table (x ∷ xs) ys = counted_append (counted table x.key x.traffic) xs ys
+counted_append : (table : Rows) (xs ys : List TrafficRow) → counted_all table (xs ++ ys) ≡ counted_all (counted_all table xs) ys
+counted_append table xs ys = ranked.counted_append rank traffic_with no_traffic table xs ys
 
 -- ---- places one after another
 

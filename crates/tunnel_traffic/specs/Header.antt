@@ -1,13 +1,13 @@
 -- The network that a packet of the underlay names, and its sender (RFC 7348, 5; RFC 8926, 3).
 use Rattle.std.specs.Prelude.{ℕ, Bool, if◌then◌else◌, List, [], ◌∷◌, Option, Some, None, is_none}
-use Rattle.frame_view.specs.First.{first}
-use Rattle.frame_view.specs.declared.reason.Reason.{Reason}
-use Rattle.frame_view.specs.declared.reason.Reason.TheVariants.{BadUdp, NotTunnel}
-use Rattle.ip_udp_view.specs.Udp.{data_of, is_bad_udp}
-use Rattle.ip_udp_view.specs.declared.addr.Tunnel.{Tunnel}
-use Rattle.underlay.specs.declared.settings.Underlay.{Underlay}
+use Rattle.wire.specs.First.{first}
+use Rattle.wire.specs.declared.ether.reason.Reason.{Reason}
+use Rattle.wire.specs.declared.ether.reason.Reason.TheVariants.{BadUdp, NotTunnel}
+use Rattle.wire.specs.Udp.{data_of, is_bad_udp}
+use Rattle.wire.specs.declared.ip_udp.addr.Tunnel.{Tunnel}
+use Rattle.overlay.specs.declared.underlay.settings.Underlay.{Underlay}
 use Rattle.decapsulate.specs.Arrival.{Packet, frame_reasons, kind_to, packet_in, tunnel_reasons, vni_of}
-use Rattle.traffic_rows.specs.declared.key.TunnelKey.{TunnelKey}
+use Rattle.tunnel_traffic.specs.declared.rows.key.TunnelKey.{TunnelKey}
 
 -- at a port of a kind
 abbrev pub key_of : Tunnel → Packet → TunnelKey

@@ -1,3 +1,12 @@
+pub mod Address
 pub mod Header
-pub mod Tunnels
+pub mod Key
+pub mod Lines
+pub mod Parts
+pub mod Rows
 pub mod Run
+pub mod Sums
+pub mod Tables
+pub mod Traffic
+pub mod TrafficRows
+pub mod Tunnels

@@ -1,14 +1,13 @@
 -- What passes by the tunnels in a whole run. It states no standard.
 use Rattle.std.specs.Prelude.{◌≡◌, List, [], ◌++◌, Option, Some, None}
 use Rattle.std.specs.List.{FoldsTo, flat_map}
-use Rattle.overlay_settings.specs.declared.change.Change.{Change}
+use Rattle.overlay.specs.declared.settings.change.Change.{Change}
 use Rattle.timeline.specs.declared.event.Event.{Event}
-use Rattle.endpoint_state.specs.Settings.{Settings}
+use Rattle.endpoint_core.specs.Settings.{Settings}
 use Rattle.endpoint_core.specs.Step.{Answer, opened}
 use Rattle.segment_set.specs.Segments.{Segments}
 use Rattle.stream_run.specs.Sights.{Sight, sights}
-use Rattle.traffic_rows.specs.Rows.{all_traffic, shown}
-use Rattle.traffic_rows.specs.declared.rows.TrafficRow.{TrafficRow}
+use Rattle.tunnel_traffic.specs.TrafficRows.{TrafficRow, all_traffic, shown}
 use Rattle.tunnel_traffic.specs.Tunnels.{Sees, Tunnels, answer_rows, no_tunnels, remotes_of, unknown_of}
 
 -- nothing of an event that isn't told

@@ -6,28 +6,27 @@
 --     Expects, Hears, Sees      an event more, an answer more, both
 use Rattle.std.specs.Prelude.{◌≡◌, ℕ, ◌==◌, Bool, if◌then◌else◌, List, [], ◌∷◌, length, Option, Some, None, Result, Ok, Err}
 use Rattle.std.specs.List.{flat_map}
-use Rattle.frame_view.specs.Reason.{number_of}
-use Rattle.frame_view.specs.declared.reason.Reason.{Reason}
-use Rattle.frame_view.specs.declared.reason.Reason.TheVariants.{UnknownVni}
-use Rattle.frame_view.specs.declared.reason.Refused.{Refused}
+use Rattle.wire.specs.Reason.{number_of}
+use Rattle.wire.specs.declared.ether.reason.Reason.{Reason}
+use Rattle.wire.specs.declared.ether.reason.Reason.TheVariants.{UnknownVni}
+use Rattle.wire.specs.declared.ether.reason.Refused.{Refused}
 use Rattle.filter_db.specs.declared.place.Place.{Place}
 use Rattle.filter_db.specs.declared.place.Place.TheVariants.{Local, Remote}
-use Rattle.underlay.specs.Overlay.{Overlay}
+use Rattle.overlay.specs.Overlay.{Overlay}
 use Rattle.timeline.specs.declared.event.Happening.{Happening}
 use Rattle.timeline.specs.declared.event.Happening.TheVariants as happenings
 use Rattle.timeline.specs.declared.source.Tap.TheVariants.{Port, Underlay}
 use Rattle.endpoint_core.specs.Arrival.{came_by}
-use Rattle.endpoint_core.specs.Came.{Came}
+use Rattle.endpoint_core.specs.Arrival.{Arrival}
 use Rattle.endpoint_core.specs.Decision.{Sent}
 use Rattle.endpoint_core.specs.Step.{Answer, Decided, Replied}
 use Rattle.stream_run.specs.Sights.{Due, Sight}
-use Rattle.traffic_rows.specs.Rows.{counted_all, row_of}
-use Rattle.traffic_rows.specs.Traffic.{came_of, left_of}
-use Rattle.traffic_rows.specs.declared.key.TunnelKey.{TunnelKey}
-use Rattle.traffic_rows.specs.declared.rows.TrafficRow.{TrafficRow}
-use Rattle.traffic_rows.specs.declared.traffic.Traffic.{Traffic}
+use Rattle.tunnel_traffic.specs.TrafficRows.{TrafficRow, counted_all, row_of}
+use Rattle.tunnel_traffic.specs.Traffic.{came_of, left_of}
+use Rattle.tunnel_traffic.specs.declared.rows.key.TunnelKey.{TunnelKey}
+use Rattle.tunnel_traffic.specs.declared.rows.traffic.Traffic.{Traffic}
 use Rattle.tunnel_traffic.specs.Header.{key_in}
-pub use Rattle.tunnel_tables.specs.Tables.{Tunnels, no_tunnels, endpoint_key}
+pub use Rattle.tunnel_traffic.specs.Tables.{Tunnels, no_tunnels, endpoint_key}
 
 -- ---- rows
 
@@ -52,12 +51,12 @@ abbrev pub refused_rows : Overlay → List ℕ → Reason → List TrafficRow
 refused_rows overlay b reason = if is_unknown reason then key_rows (key_in overlay.underlay b) (came_of 0) else []
 
 -- a packet of a network that no segment has
-abbrev pub unknown_by : Overlay → List ℕ → Result Came Refused → List TrafficRow
+abbrev pub unknown_by : Overlay → List ℕ → Result Arrival Refused → List TrafficRow
 unknown_by overlay b (Ok x) = []
 unknown_by overlay b (Err refused) = refused_rows overlay b refused.reason
 
 -- a packet that brings a frame to a segment
-abbrev pub remotes_by : List ℕ → Result Came Refused → List TrafficRow
+abbrev pub remotes_by : List ℕ → Result Arrival Refused → List TrafficRow
 remotes_by b (Ok x) = rows_at x.from (came_of (length b))
 remotes_by b (Err refused) = []
 
@@ -93,7 +92,7 @@ answer_rows (Replied fault) = []
 -- ---- what was counted
 
 -- with a packet that brings this
-abbrev pub packet_told : Tunnels → Overlay → List ℕ → Result Came Refused → Tunnels
+abbrev pub packet_told : Tunnels → Overlay → List ℕ → Result Arrival Refused → Tunnels
 packet_told t overlay b came = record {
   unknown = counted_all t.unknown (unknown_by overlay b came);
   remotes = counted_all t.remotes (remotes_by b came);

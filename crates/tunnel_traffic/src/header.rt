@@ -1,20 +1,20 @@
 //! The network that a packet names.
 ghost use Rattle.std.specs.Prelude.{◌≡◌, if◌then◌else◌, IfOk, None, Some, is_none};
-ghost use Rattle.frame_view.specs.First.{fault_of, first};
-ghost use Rattle.ip_udp_view.specs.Udp.{data_of};
+ghost use Rattle.wire.specs.First.{fault_of, first};
+ghost use Rattle.wire.specs.Udp.{data_of};
 ghost use Rattle.decapsulate.specs.Arrival.{kind_to, tunnel_reasons, vni_of};
 ghost use Rattle.tunnel_traffic.specs.Header.{key_by, key_in, port_reasons};
 
+use crate::rows::TunnelKey;
 use decapsulate::{Packet, tunnel_of};
-use frame_view::Reason;
-use geneve_head::Known;
-use ip_udp_view::{Addr, Tunnel, UdpView};
-use traffic_rows::TunnelKey;
-use underlay::{Under, Underlay};
+use overlay::underlay::{Overlay, Underlay};
+use wire::ether::Reason;
+use wire::geneve::Known;
+use wire::ip_udp::{Addr, Tunnel, UdpView};
 
 /// The network that the tunnel header of a packet names, and who sent it. None: no tunnel header stands there. Whom the
 /// packet is for, and what its checksum says, isn't asked.
-pub fn key_in(under: &Under, octets: &[u8]) -> Option<TunnelKey>
+pub fn key_in(under: &Overlay, octets: &[u8]) -> Option<TunnelKey>
     ensures { result ≡ key_in under.now.underlay octets.now }
 {
     match Packet::read(octets) {
@@ -24,7 +24,7 @@ pub fn key_in(under: &Under, octets: &[u8]) -> Option<TunnelKey>
 }
 
 /// The network that is named in a packet.
-fn key_by(under: &Under, packet: &Packet) -> Option<TunnelKey>
+fn key_by(under: &Overlay, packet: &Packet) -> Option<TunnelKey>
     ensures { result ≡ key_by under.now.underlay packet.now }
 {
     match data_in(packet, under.settings()) {

@@ -1,14 +1,14 @@
 //! The tables of packets of networks that no segment has, and of remote endpoints.
 ghost use Rattle.std.specs.Prelude.{◌≡◌, ◌<◌, ◌+◌, IfOk};
-ghost use Rattle.traffic_rows.specs.Rows.{counted, no_rows};
-ghost use Rattle.traffic_rows.specs.Traffic.{came_of};
-ghost use Rattle.tunnel_tables.specs.Tables.{ArePackets, IsEndpoint, IsNetwork, IsTable, IsTraffic, endpoint_key};
+ghost use Rattle.tunnel_traffic.specs.TrafficRows.{counted, no_rows};
+ghost use Rattle.tunnel_traffic.specs.Traffic.{came_of};
+ghost use Rattle.tunnel_traffic.specs.Tables.{ArePackets, IsEndpoint, IsNetwork, IsTable, IsTraffic, endpoint_key};
 
-use ip_udp_view::{Addr, Tunnel};
+use crate::rows::{Traffic, TrafficRows, TunnelKey};
 use std::alloc::{AllocError, Global};
 use std::marker::Model;
-use traffic_rows::{Traffic, TrafficRows, TunnelKey};
-use vxlan_head::Vni;
+use wire::ip_udp::{Addr, Tunnel};
+use wire::vxlan::Vni;
 
 /// Packets of networks that no segment has, without their octets.
 #[derive(Drop)]
@@ -17,8 +17,8 @@ pub struct UnknownRows {
 }
 
 impl Model for UnknownRows {
-    ghost use Rattle.traffic_rows.specs.Rows.{Rows};
-    ghost use Rattle.tunnel_tables.specs.Tables.{ArePackets, IsNetwork, IsTable};
+    ghost use Rattle.tunnel_traffic.specs.TrafficRows.{Rows};
+    ghost use Rattle.tunnel_traffic.specs.Tables.{ArePackets, IsNetwork, IsTable};
 
     ghost Value = { Rows };
 
@@ -59,8 +59,8 @@ pub struct RemoteRows {
 }
 
 impl Model for RemoteRows {
-    ghost use Rattle.traffic_rows.specs.Rows.{Rows};
-    ghost use Rattle.tunnel_tables.specs.Tables.{IsEndpoint, IsTable, IsTraffic};
+    ghost use Rattle.tunnel_traffic.specs.TrafficRows.{Rows};
+    ghost use Rattle.tunnel_traffic.specs.Tables.{IsEndpoint, IsTable, IsTraffic};
 
     ghost Value = { Rows };
 

@@ -1,34 +1,34 @@
 //! What passes by tunnels.
 ghost use Rattle.std.specs.Prelude.{◌≡◌, ◌<◌, ◌+◌, IfOk, IsSome, IsTrue, map};
 ghost use Rattle.std.specs.List.{flat_map, list_all};
-ghost use Rattle.endpoint_core.specs.Course.{CanLeave, IsThere, decision_of};
+ghost use Rattle.endpoint_core.specs.Forwarding.{CanLeave, IsThere, decision_of};
 ghost use Rattle.endpoint_core.specs.Kept.{state_of};
 ghost use Rattle.endpoint_core.specs.Step.{Decided, sent_at};
-ghost use Rattle.endpoint_state.specs.Settings.{segment_at};
-ghost use Rattle.endpoint_state.specs.Step.{can_leave};
+ghost use Rattle.endpoint_core.specs.Settings.{segment_at};
+ghost use Rattle.endpoint_core.specs.StateStep.{can_leave};
 ghost use Rattle.stream_run.specs.Sights.{IsBrought};
 ghost use Rattle.timeline.specs.declared.event.Happening.TheVariants.{Record};
-ghost use Rattle.traffic_rows.specs.Rows.{counted_all};
-ghost use Rattle.traffic_rows.specs.Traffic.{came_of};
-ghost use Rattle.tunnel_tables.specs.Lines.{tunnels_text};
-ghost use Rattle.tunnel_tables.specs.Tables.{IsTold};
+ghost use Rattle.tunnel_traffic.specs.TrafficRows.{counted_all};
+ghost use Rattle.tunnel_traffic.specs.Traffic.{came_of};
+ghost use Rattle.tunnel_traffic.specs.Lines.{tunnels_text};
+ghost use Rattle.tunnel_traffic.specs.Tables.{IsTold};
 ghost use Rattle.tunnel_traffic.specs.Tunnels.{answer_rows, answer_told, came_told, is_unknown, key_rows};
 ghost use Rattle.tunnel_traffic.specs.Tunnels.{no_tunnels, outcome_rows, packet_told, refused_rows, rows_at};
 
 use crate::header::key_in;
+use crate::rows::{Traffic, TunnelKey};
 use crate::tables::{RemoteRows, UnknownRows};
-use endpoint_core::{Came, ChangeFault, Course, Endpoint};
+use crate::told::put_tunnels;
+use endpoint_core::{Arrival, ChangeFault, Endpoint, Forwarding};
 use filter_db::Place;
-use frame_view::Reason;
 use std::alloc::{AllocError, Global};
 use std::marker::Model;
 use stream_run::Watch;
 use timeline::{Captured, Event, Happening, Tap};
-use traffic_rows::{Traffic, TunnelKey};
-use tunnel_tables::put_tunnels;
+use wire::ether::Reason;
 
 /// What passes by the tunnels of an endpoint. It looks on while a run goes. Only [`TunnelTraffic::open`] and
-/// [`TunnelTraffic::text`] take memory; the tables take 0.5 MiB together.
+/// [`TunnelTraffic::text`] take memory; the tables take 0.75 MiB together.
 #[derive(Drop)]
 pub struct TunnelTraffic {
     unknown: UnknownRows,
@@ -60,7 +60,7 @@ impl TunnelTraffic {
         ensures told { IsTold self.now }
     {
         let mut text = String::new(alloc);
-        put_tunnels(&mut text, self.unknown.table(), self.remotes.table())?;
+        put_tunnels(alloc, &mut text, self.unknown.table(), self.remotes.table())?;
         Ok(text.into_bytes())
     }
 }
@@ -75,15 +75,15 @@ impl Watch for TunnelTraffic {
 
     ghost ends = { λ old state new. new ≡ old };
 
-    fn see(&mut self, endpoint: &Endpoint, _number: u64, event: &Event, came: &Course) {
+    fn see(&mut self, endpoint: &Endpoint, _number: u64, event: &Event, came: &Forwarding) {
         match &event.happening {
             Happening::Change(_) => {}
             Happening::Record(tap, captured) => self.count_record(endpoint, *tap, captured, came),
         }
     }
 
-    fn hear_decision(&mut self, endpoint: &Endpoint, course: &Course, places: &[Place]) {
-        self.count_decision(endpoint, course, places);
+    fn hear_decision(&mut self, endpoint: &Endpoint, forwarding: &Forwarding, places: &[Place]) {
+        self.count_decision(endpoint, forwarding, places);
     }
 
     fn hear_reply(&mut self, _reply: Result<(), ChangeFault>) {}
@@ -95,16 +95,23 @@ impl Watch for TunnelTraffic {
 
 impl TunnelTraffic {
     /// Counts what leaves of a frame or a packet.
-    fn count_decision(&mut self, endpoint: &Endpoint, course: &Course, places: &[Place])
-        requires there { IsThere (state_of endpoint.now).bridges.settings course.now }
-        requires leave { CanLeave (state_of endpoint.now).bridges.settings course.now places.now }
-        ensures { self.new ≡ answer_told self.old (Decided (decision_of (state_of endpoint.now).bridges.settings course.now places.now)) }
+    fn count_decision(&mut self, endpoint: &Endpoint, forwarding: &Forwarding, places: &[Place])
+        requires there { IsThere (state_of endpoint.now).bridges.settings forwarding.now }
+        requires leave { CanLeave (state_of endpoint.now).bridges.settings forwarding.now places.now }
+        ensures { self.new ≡ answer_told self.old
+            (Decided (decision_of (state_of endpoint.now).bridges.settings forwarding.now places.now)) }
     {
-        count_answer(&mut self.remotes, endpoint, course, places);
+        count_answer(&mut self.remotes, endpoint, forwarding, places);
     }
 
     /// Counts what a record is before its answer.
-    fn count_record(&mut self, endpoint: &Endpoint, tap: Tap, captured: &Captured, came: &Course)
+    fn count_record(
+        &mut self,
+        endpoint: &Endpoint,
+        tap: Tap,
+        captured: &Captured,
+        came: &Forwarding,
+    )
         requires { IsBrought (state_of endpoint.now).bridges.settings (Record tap captured.now) came.now }
         ensures { self.new ≡ came_told self.old (state_of endpoint.now).bridges.settings.overlay (Record tap captured.now) }
     {
@@ -115,7 +122,7 @@ impl TunnelTraffic {
     }
 
     /// Counts what a packet of the underlay is before its answer.
-    fn count_packet(&mut self, endpoint: &Endpoint, octets: &[u8], came: &Course)
+    fn count_packet(&mut self, endpoint: &Endpoint, octets: &[u8], came: &Forwarding)
         ensures { self.new ≡ packet_told self.old (state_of endpoint.now).bridges.settings.overlay octets.now came.now }
     {
         match came {
@@ -166,19 +173,24 @@ fn count_at(remotes: &mut RemoteRows, place: Place, traffic: Traffic)
 }
 
 /// Counts what leaves of a frame or a packet.
-fn count_answer(remotes: &mut RemoteRows, endpoint: &Endpoint, course: &Course, places: &[Place])
-    requires there { IsThere (state_of endpoint.now).bridges.settings course.now }
-    requires leave { CanLeave (state_of endpoint.now).bridges.settings course.now places.now }
+fn count_answer(
+    remotes: &mut RemoteRows,
+    endpoint: &Endpoint,
+    forwarding: &Forwarding,
+    places: &[Place],
+)
+    requires there { IsThere (state_of endpoint.now).bridges.settings forwarding.now }
+    requires leave { CanLeave (state_of endpoint.now).bridges.settings forwarding.now places.now }
     ensures { remotes.new ≡ counted_all remotes.old
-        (answer_rows (Decided (decision_of (state_of endpoint.now).bridges.settings course.now places.now))) }
+        (answer_rows (Decided (decision_of (state_of endpoint.now).bridges.settings forwarding.now places.now))) }
 {
-    if let Ok(came) = course {
+    if let Ok(came) = forwarding {
         count_leaving(remotes, endpoint, came, places);
     }
 }
 
 /// Counts what leaves of a frame at each of these places.
-fn count_leaving(remotes: &mut RemoteRows, endpoint: &Endpoint, came: &Came, places: &[Place])
+fn count_leaving(remotes: &mut RemoteRows, endpoint: &Endpoint, came: &Arrival, places: &[Place])
     requires there { IsSome (segment_at (state_of endpoint.now).bridges.settings came.now.vid) }
     requires leave { IsTrue (list_all (can_leave (state_of endpoint.now).bridges.settings came.now.vid) places.now) }
     ensures { let S = (state_of endpoint.now).bridges.settings in
@@ -190,7 +202,7 @@ fn count_leaving(remotes: &mut RemoteRows, endpoint: &Endpoint, came: &Came, pla
 }
 
 /// Counts what leaves of a frame at a place, where something does.
-fn count_sent(remotes: &mut RemoteRows, endpoint: &Endpoint, came: &Came, place: Place)
+fn count_sent(remotes: &mut RemoteRows, endpoint: &Endpoint, came: &Arrival, place: Place)
     requires { IsTrue (can_leave (state_of endpoint.now).bridges.settings came.now.vid place) }
     ensures { let S = (state_of endpoint.now).bridges.settings in
         remotes.new ≡ counted_all remotes.old (outcome_rows (sent_at S came.now.vid came.now.frame place)) }

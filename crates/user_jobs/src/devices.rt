@@ -1,17 +1,17 @@
 //! Captures as the program opens them, and outputs as it writes them, over memory.
 ghost use Rattle.std.specs.Prelude.{◌≡◌, ◌≤◌, All, IfOk, length};
-ghost use Rattle.pcap_stream.specs.Source.{New, Stream};
+ghost use Rattle.pcap.specs.Source.{New, Stream};
 ghost use Rattle.stream_run.specs.Begun.{IsUnread};
 
 use crate::digest::{Digest, DigestOutput};
 use crate::fault::{JobFault, Stage};
 use crate::traffic::Captures;
 use part_record::CountInput;
-use pcap_stream::{BlockOutput, Output, Sink, Source};
+use pcap::stream::{BlockOutput, Output, Sink, Source};
 use pcapng_input::{CaptureInput, Selection};
 use segment_set::SegmentSet;
 use std::alloc::{AllocError, Global};
-use stream_run::{Captures as RunCaptures, Outputs, Watch, run_segments};
+use stream_run::{Captures as RunCaptures, Job, Outputs, ReadTexts, TakesAll, Watch, read_texts};
 use test_inputs::{Pieces, in_pieces};
 
 /// How many octets are read, and written, at once.
@@ -115,13 +115,27 @@ pub fn run<'a, T: Watch>(
         underlay,
         may_wait: false,
     };
-    let end = run_segments(
+    let Ok(read) = read_texts(alloc, settings, changes) else {
+        return Err(JobFault::Failed(Stage::Run));
+    };
+    let ReadTexts {
+        settings: asked,
+        changes: told,
+    } = read;
+    let all = SegmentSet::all();
+    let job = Job {
+        settings_text: settings,
+        changes_text: changes,
+        settings: asked,
+        changes: told.as_slice(),
+        segments: &all,
+    };
+    let end = stream_run::run(
         alloc,
-        settings,
-        changes,
+        job,
         &mut captures,
         &mut outputs,
-        &SegmentSet::all(),
+        &mut TakesAll,
         watch,
     );
     if end.is_err() {

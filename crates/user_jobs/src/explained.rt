@@ -3,9 +3,9 @@
 use crate::digest::Digest;
 use crate::draws::Draws;
 use crate::fault::{JobFault, Stage};
+use crate::packets::{Bodies, Body, EVERYBODY, Tunnel, body_of, head_of, station};
 use crate::tape::Tape;
 use crate::traffic::{FIRST_VNI, SEGMENTS, switch_settings};
-use crate::wire::{Bodies, Body, EVERYBODY, Tunnel, body_of, head_of, station};
 use explanation::{Values, explain_bytes};
 use std::alloc::{AllocError, Global};
 

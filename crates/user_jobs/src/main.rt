@@ -13,12 +13,12 @@ mod draws;
 mod explained;
 mod fault;
 mod listed;
+mod packets;
 mod parts;
 mod runs;
 mod tape;
 mod traffic;
 mod watched;
-mod wire;
 
 use digest::Digest;
 use draws::Draws;

@@ -13,11 +13,13 @@ use part_merge::{Capture, Part, merge_streams};
 use part_record::{
     CaptureDigest, CaptureDigests, DigestInput, MOST_PORTS, digests_of, digests_text,
 };
-use pcap_stream::{BlockOutput, Sink, Source};
+use pcap::stream::{BlockOutput, Sink, Source};
 use pcapng_input::{CaptureInput, Selection};
 use segment_set::SegmentSet;
 use std::alloc::{AllocError, Global};
-use stream_run::{Captures as RunCaptures, Outputs, Unwatched, run_segments};
+use stream_run::{
+    Captures as RunCaptures, Job, Outputs, ReadTexts, TakesAll, Unwatched, read_texts, run,
+};
 use test_inputs::{Pieces, Room, in_pieces};
 
 /// The segments of the parts.
@@ -140,13 +142,26 @@ fn run_part(
         underlay: Sink::new(kept(alloc)?),
         decisions: kept(alloc)?,
     };
-    let end = run_segments(
+    let Ok(texts) = read_texts(alloc, settings, &[]) else {
+        return Err(JobFault::Failed(Stage::Part));
+    };
+    let ReadTexts {
+        settings: asked,
+        changes: told,
+    } = texts;
+    let job = Job {
+        settings_text: settings,
+        changes_text: &[],
+        settings: asked,
+        changes: told.as_slice(),
+        segments,
+    };
+    let end = run(
         alloc,
-        settings,
-        &[],
+        job,
         &mut read,
         &mut outputs,
-        segments,
+        &mut TakesAll,
         &mut Unwatched,
     );
     if end.is_err() {

@@ -1,8 +1,8 @@
 //! What comes to an endpoint in an hour of a switch: settings, and captures.
 
 use crate::draws::{Draws, part_of};
+use crate::packets::{Bodies, Body, EVERYBODY, Head, Tunnel, head_of, station};
 use crate::tape::Tape;
-use crate::wire::{Bodies, Body, EVERYBODY, Head, Tunnel, head_of, station};
 use std::alloc::{AllocError, Global};
 use std::fmt::Write;
 

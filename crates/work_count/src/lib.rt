@@ -7,8 +7,12 @@
 //!
 //! Proved: [`Count::zero`] makes the number 0, and [`Count::tick`] adds one. Their two proofs are written by hand.
 //!
+//! Proved besides:
+//! - A `Count` is a number that contracts see and no octet keeps: `zero` makes it 0, `tick` adds one. Their two proofs
+//!   are written by hand.
+//!
 //! Why it is so: the toolchain's ledgers would give the tables, and all that holds them, a type parameter for each count.
-//! Only a proof by hand can set a count's number, so no function but these two has one, which `tests/hand_proofs.sh` looks
+//! Only a proof by hand can set a count's number, so no function but these two has one, which `tests/code/hand_proofs.sh` looks
 //! at; any other raises a count by `tick` alone. But a body may put another count in its place, as a new one of zero. So a
 //! contract that says how little a call adds to a count also says that the count is no less than before.
 #![tactic(auto)]

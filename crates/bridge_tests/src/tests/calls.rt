@@ -3,11 +3,11 @@ ghost use Rattle.std.specs.Prelude.{◌≡◌, ◌≤◌, IfOk};
 ghost use Rattle.filter_db.specs.Segment.{IsRule};
 
 use filter_db::{Learned, ListTables, NotThere, Place, PoolTables, TableFull, TableRule, Tables};
-use frame_view::{Mac, Vid};
-use ip_udp_view::{Addr, Tunnel};
 use shared_tables::SharedTables;
 use std::alloc::Global;
 use std::test::Fail;
+use wire::ether::{Mac, Vid};
+use wire::ip_udp::{Addr, Tunnel};
 
 pub(crate) const SECOND: u64 = 1_000_000_000;
 

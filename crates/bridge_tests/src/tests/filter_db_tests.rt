@@ -6,10 +6,10 @@ use crate::tests::calls::{
 };
 use crate::tests::checks::check_at;
 use filter_db::{Learned, NotThere, TableFull, Tables};
-use frame_view::Vid;
 use std::alloc::Global;
 use std::process::Abort;
 use std::test::Fail;
+use wire::ether::Vid;
 
 const REFRESHED: Answer = Answer::Learned(Learned::Refreshed);
 

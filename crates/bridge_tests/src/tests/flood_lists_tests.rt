@@ -1,10 +1,10 @@
 //! Flood lists up to 512 entries and over the edge between 16 and 17; faults by their names.
 use crate::tests::checks::{check, check_at};
 use crate::tests::flood_lists_tests::Call::{Add, Remove};
-use flood_lists::{FloodFault, FloodList, NotThere, Own, Room};
-use ip_udp_view::{Addr, Tunnel};
+use overlay::flood::{FloodFault, FloodList, NotThere, Own, Room};
 use std::alloc::{AllocError, Global};
 use std::test::Fail;
+use wire::ip_udp::{Addr, Tunnel};
 
 const FAULTS: [(FloodFault, &str); 5] = [
     (FloodFault::OutOfRange, "OutOfRange"),

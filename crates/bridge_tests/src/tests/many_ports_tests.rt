@@ -3,13 +3,13 @@ use crate::tests::calls::VXLAN_2;
 use crate::tests::checks::{check, check_at};
 use crate::tests::ports::up_port;
 use filter_db::Place;
-use flood_lists::FloodList;
-use frame_view::Vid;
+use overlay::flood::FloodList;
+use overlay::ports::{Egress, MemberRule, PortList, PortSet};
 use std::alloc::Global;
 use std::process::Abort;
 use std::test::Fail;
 use tunnel_learning::{Bridge, Outlets, send_toward};
-use vlan_ports::{Egress, MemberRule, PortList, PortSet};
+use wire::ether::Vid;
 
 /// A member port, and how frames leave there.
 type Member = (u8, Egress);

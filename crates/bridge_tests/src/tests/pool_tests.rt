@@ -5,11 +5,11 @@ use crate::tests::calls::{
 };
 use crate::tests::checks::{check, check_at};
 use filter_db::{ListTables, PoolTables, TableRule};
-use frame_view::Vid;
 use shared_tables::SharedTables;
 use std::alloc::{AllocError, Global};
 use std::process::Abort;
 use std::test::Fail;
+use wire::ether::Vid;
 
 /// A step of a pool, and what comes of it.
 #[derive(Clone, Copy)]

@@ -1,6 +1,6 @@
 //! Ports of tests.
-use frame_view::Vid;
-use vlan_ports::{Accept, PortRule};
+use overlay::ports::{Accept, PortRule};
+use wire::ether::Vid;
 
 /// A port that is up, and whose frames without a tag are of this segment.
 pub(crate) fn up_port(pvid: Vid) -> PortRule {

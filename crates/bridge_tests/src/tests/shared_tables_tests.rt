@@ -4,8 +4,8 @@ ghost use Rattle.shared_tables.specs.Bucket.{bucket_of};
 
 use crate::tests::calls::{Course, agree, opened};
 use crate::tests::checks::check_at;
-use frame_view::Vid;
 use std::test::Fail;
+use wire::ether::Vid;
 
 /// Two segments' addresses have one bucket, by hand: 512 + 0 + 1 + 10 and 512 + 0 + 2 + 9, below 4,096.
 fn one_bucket()

@@ -3,14 +3,14 @@ use crate::tests::calls::{PORT_1, PORT_2, PORT_3, VXLAN_2};
 use crate::tests::checks::{check, check_at};
 use crate::tests::ports::up_port;
 use filter_db::{ListTables, Place, TableRule, Tables};
-use flood_lists::{FloodList, Own};
-use frame_view::{BridgeFrame, EtherView, Mac, Reason, Vid};
-use ip_udp_view::{Addr, Tunnel};
+use overlay::flood::{FloodList, Own};
+use overlay::ports::{MemberRule, PortList, PortSet};
 use std::alloc::Global;
 use std::process::Abort;
 use std::test::Fail;
 use tunnel_learning::{Bridge, Outlets, bridge_step_into};
-use vlan_ports::{MemberRule, PortList, PortSet};
+use wire::ether::{BridgeFrame, EtherView, Mac, Reason, Vid};
+use wire::ip_udp::{Addr, Tunnel};
 
 const VXLAN_3: Place = Place::Remote(Tunnel::Vxlan, Addr::V4([192, 0, 2, 3]));
 
@@ -62,14 +62,14 @@ fn frame_of(dst: u8, src: u8) -> [u8; 14] {
 }
 
 /// A frame from a place, to and from addresses by their last octets, and where it goes, or why it doesn't.
-type Came = (Place, u8, u8, Result<&'static [Place], Reason>);
+type Arrival = (Place, u8, u8, Result<&'static [Place], Reason>);
 
 /// What the bridge does with a frame that comes at a moment, its places in a list.
 fn verdict(
     tables: &mut ListTables,
     bridge: &Bridge,
     now: u64,
-    came: &Came,
+    came: &Arrival,
     places: &mut Outlets,
 ) -> Option<Result<(), Reason>> {
     if !tables.has(bridge.vid) || now < tables.now() {
@@ -90,7 +90,7 @@ fn verdict(
 }
 
 /// Whether a frame that comes at a moment goes where it should.
-fn is_answered(tables: &mut ListTables, bridge: &Bridge, now: u64, came: &Came) -> bool {
+fn is_answered(tables: &mut ListTables, bridge: &Bridge, now: u64, came: &Arrival) -> bool {
     let mut places = Outlets::new();
     match (verdict(tables, bridge, now, came, &mut places), came.3) {
         (Some(Ok(())), Ok(wanted)) => places.as_slice() == wanted,
@@ -100,7 +100,7 @@ fn is_answered(tables: &mut ListTables, bridge: &Bridge, now: u64, came: &Came) 
 }
 
 /// Asks for where each of some frames goes, one a nanosecond from 1 on.
-fn walk(rt: &impl Abort, tables: &mut ListTables, bridge: &Bridge, frames: &[Came]) {
+fn walk(rt: &impl Abort, tables: &mut ListTables, bridge: &Bridge, frames: &[Arrival]) {
     let mut now: u64 = 0;
     for (number, came) in frames.iter().enumerate() {
         now = now.saturating_add(1);
@@ -113,7 +113,7 @@ fn walk_among(
     rt: &impl Abort,
     alloc: Global,
     (flood, groups): (&FloodList, [u8; 2]),
-    frames: &[Came],
+    frames: &[Arrival],
 ) -> Result<(), Fail> {
     let ports = three_ports(alloc)?;
     let bridge = Bridge {
@@ -128,7 +128,7 @@ fn walk_among(
     Ok(())
 }
 
-const AMONG_PORTS: [Came; 4] = [
+const AMONG_PORTS: [Arrival; 4] = [
     (PORT_1, ALL, 1, Ok(&[PORT_2, PORT_3])),
     (PORT_2, 1, 2, Ok(&[PORT_1])),
     (PORT_1, 2, 1, Ok(&[PORT_2])),
@@ -153,7 +153,7 @@ fn two_remotes() -> Result<FloodList, Fail> {
     Ok(flood)
 }
 
-const OF_ONE_GROUP: [Came; 6] = [
+const OF_ONE_GROUP: [Arrival; 6] = [
     (PORT_1, ALL, 1, Ok(&[PORT_2, PORT_3, VXLAN_2, GENEVE_3])),
     (VXLAN_2, ALL, 5, Ok(&[PORT_1, PORT_2, PORT_3])),
     (GENEVE_3, 5, 6, Err(Reason::Horizon)),
@@ -162,7 +162,7 @@ const OF_ONE_GROUP: [Came; 6] = [
     (PORT_1, 5, 1, Ok(&[VXLAN_2])),
 ];
 
-const OF_TWO_GROUPS: [Came; 3] = [
+const OF_TWO_GROUPS: [Arrival; 3] = [
     (VXLAN_2, ALL, 5, Ok(&[PORT_1, PORT_2, PORT_3, GENEVE_3])),
     (GENEVE_3, 5, 6, Ok(&[VXLAN_2])),
     (VXLAN_3, 5, 6, Err(Reason::Horizon)),
@@ -176,7 +176,7 @@ fn remotes_of_one_group_and_of_two(rt: HostRuntime) -> Result<(), Fail> {
 }
 
 /// Address 2 stands at port 2, which is down. A source is learned although its frame goes nowhere.
-const PORTS_DOWN: [Came; 3] = [
+const PORTS_DOWN: [Arrival; 3] = [
     (PORT_1, ALL, 1, Err(Reason::NoOutlet)),
     (PORT_1, 2, 1, Err(Reason::Unreachable)),
     (VXLAN_2, 1, 3, Ok(&[PORT_1])),

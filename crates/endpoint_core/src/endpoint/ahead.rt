@@ -1,18 +1,18 @@
 //! Where a frame or a packet would go, told without a step.
 ghost use Rattle.std.specs.Prelude.{◌≡◌, ◌≤◌, length, IfOk, IsSome, true, Ok};
-ghost use Rattle.endpoint_state.specs.Held.{settings_of, state_at, moment_of};
-ghost use Rattle.endpoint_state.specs.Settings.{segment_at};
-ghost use Rattle.endpoint_state.specs.Sound.{is_reached};
+ghost use Rattle.endpoint_core.specs.Held.{settings_of, state_at, moment_of};
+ghost use Rattle.endpoint_core.specs.Settings.{segment_at};
+ghost use Rattle.endpoint_core.specs.Sound.{is_reached};
 ghost use Rattle.endpoint_core.specs.Arrival.{came_at, came_by};
-ghost use Rattle.endpoint_core.specs.Course.{decision_of, IsThere, IsShortFrame, CanLeave, IsEmptied, IsOfWhatCame};
+ghost use Rattle.endpoint_core.specs.Forwarding.{decision_of, IsThere, IsShortFrame, CanLeave, IsEmptied, IsOfWhatCame};
 ghost use Rattle.endpoint_core.specs.Event.{frame_at, packet_at};
 ghost use Rattle.endpoint_core.specs.Step.{Decided, answer, decided, decided_in};
 
-use crate::arrival::Came;
-use crate::{Course, Endpoint};
-use endpoint_state::EndpointState;
-use frame_view::Refused;
+use crate::arrival::Arrival;
+use crate::state::EndpointState;
+use crate::{Endpoint, Forwarding};
 use tunnel_learning::Outlets;
+use wire::ether::Refused;
 
 impl Endpoint {
     ghost use Rattle.endpoint_core.specs.Kept.{state_of};
@@ -20,14 +20,14 @@ impl Endpoint {
     /// Where a frame at a local port would go, as [`Endpoint::take_frame`] takes it, with the places in a list that is written
     /// over, and empty where it would be dropped; the endpoint stays as it is. `now` isn't before `self.now()`, and the port is
     /// 1 to `ports()`.
-    pub fn course_of_frame<'a>(
+    pub fn forwarding_of_frame<'a>(
         &self,
         now: u64,
         port: u8,
         original: u32,
         octets: &'a [u8],
         places: &mut Outlets,
-    ) -> Course<'a>
+    ) -> Forwarding<'a>
         requires moment { (state_of self.now).moment ≤ now }
         requires low { 1 ≤ port }
         requires high { port ≤ length (state_of self.now).bridges.settings.ports.ports }
@@ -41,18 +41,18 @@ impl Endpoint {
             IsOfWhatCame (came_at S.ports S.overlay port original octets.now) result }
     {
         let came = self.frame_from(port, original, octets);
-        course_ahead(&self.state, now, came, places)
+        forwarding_ahead(&self.state, now, came, places)
     }
 
     /// Where a packet from the underlay would go, as [`Endpoint::take_packet`] takes it, with the places in a list that is
     /// written over, and empty where it would be dropped; the endpoint stays as it is. `now` isn't before `self.now()`.
-    pub fn course_of_packet<'a>(
+    pub fn forwarding_of_packet<'a>(
         &self,
         now: u64,
         original: u32,
         octets: &'a [u8],
         places: &mut Outlets,
-    ) -> Course<'a>
+    ) -> Forwarding<'a>
         requires { (state_of self.now).moment ≤ now }
         ensures answer { Decided (decision_of (state_of self.now).bridges.settings result places.new.items)
             ≡ answer (state_of self.now) (packet_at now original octets.now) }
@@ -64,17 +64,17 @@ impl Endpoint {
             IsOfWhatCame (came_by S.overlay original octets.now) result }
     {
         let came = self.frame_in(original, octets);
-        course_ahead(&self.state, now, came, places)
+        forwarding_ahead(&self.state, now, came, places)
     }
 }
 
 /// Where it would go, with the places in a list that is written over.
-fn course_ahead<'a>(
+fn forwarding_ahead<'a>(
     state: &EndpointState,
     now: u64,
-    came: Course<'a>,
+    came: Forwarding<'a>,
     places: &mut Outlets,
-) -> Course<'a>
+) -> Forwarding<'a>
     requires time { moment_of state.now ≤ now }
     requires there { IfOk came (λ x. IsSome (segment_at (settings_of state.now) x.vid)) }
     requires short { IfOk came (λ x. length x.frame.body ≤ 65549) }
@@ -87,7 +87,7 @@ fn course_ahead<'a>(
     ensures came { IsOfWhatCame came.entry result }
 {
     match came {
-        Ok(came) => course_in(state, now, came, places),
+        Ok(came) => forwarding_in(state, now, came, places),
         Err(refused) => {
             places.clear();
             Err(refused)
@@ -96,12 +96,12 @@ fn course_ahead<'a>(
 }
 
 /// Where the bridge of its segment would send a frame.
-fn course_in<'a>(
+fn forwarding_in<'a>(
     state: &EndpointState,
     now: u64,
-    came: Came<'a>,
+    came: Arrival<'a>,
     places: &mut Outlets,
-) -> Course<'a>
+) -> Forwarding<'a>
     requires time { moment_of state.now ≤ now }
     requires there { IsSome (segment_at (settings_of state.now) came.vid) }
     requires short { length came.frame.body ≤ 65549 }

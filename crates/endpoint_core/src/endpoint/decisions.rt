@@ -1,9 +1,9 @@
-//! Decisions: what an endpoint makes of a frame or a packet, as one value, with a step or without.
+//! Decisions: what an endpoint makes of a frame or a packet, as one value.
 ghost use Rattle.std.specs.Prelude.{◌≡◌, ◌<◌, ◌≤◌, ◌+◌, false, length, true};
-ghost use Rattle.frame_view.specs.Tag.{IsVid};
-ghost use Rattle.underlay.specs.Overlay.{flood_at};
+ghost use Rattle.wire.specs.Tag.{IsVid};
+ghost use Rattle.overlay.specs.Overlay.{flood_at};
 ghost use Rattle.endpoint_core.specs.Arrival.{came_at, came_by};
-ghost use Rattle.endpoint_core.specs.Course.{AreInParts};
+ghost use Rattle.endpoint_core.specs.Forwarding.{AreInParts};
 ghost use Rattle.endpoint_core.specs.Decision.{octets_of};
 ghost use Rattle.endpoint_core.specs.Event.{frame_at, packet_at};
 ghost use Rattle.endpoint_core.specs.Outlets.{AreFewOutlets, HasFewOutlets};
@@ -11,9 +11,9 @@ ghost use Rattle.endpoint_core.specs.Step.{Decided, answer, after};
 ghost use Rattle.endpoint_core.specs.Work.{most_calls, most_compared_by};
 
 use crate::{Decision, Endpoint};
-use frame_view::Vid;
+use overlay::underlay::Overlay;
 use tunnel_learning::Outlets;
-use underlay::Under;
+use wire::ether::Vid;
 
 /// The most outlets of a decision.
 const MOST: usize = 32;
@@ -53,8 +53,8 @@ impl Endpoint {
             self.new.held.tables.compared ≤ self.old.held.tables.compared + most_compared_by came }
     {
         let mut places = Outlets::new();
-        let course = self.take_frame(now, port, original, octets, &mut places);
-        Decision::of(&self.state, &course, places.as_slice())
+        let forwarding = self.take_frame(now, port, original, octets, &mut places);
+        Decision::of(&self.state, &forwarding, places.as_slice())
     }
 
     /// A packet of this original length came in from the underlay at a moment, in nanoseconds: what is decided of it.
@@ -74,46 +74,13 @@ impl Endpoint {
             self.new.held.tables.compared ≤ self.old.held.tables.compared + most_compared_by came }
     {
         let mut places = Outlets::new();
-        let course = self.take_packet(now, original, octets, &mut places);
-        Decision::of(&self.state, &course, places.as_slice())
-    }
-
-    /// What would be decided of a frame at a local port, as [`Endpoint::frame`] decides it; the endpoint stays as it is.
-    /// `now` isn't before `self.now()`, the port is 1 to `ports()`, and outlets are few. With any settings
-    /// [`Endpoint::course_of_frame`] tells the same.
-    pub fn foresee_frame<'a>(
-        &self,
-        now: u64,
-        port: u8,
-        original: u32,
-        octets: &'a [u8],
-    ) -> Decision<'a>
-        requires moment { (state_of self.now).moment ≤ now }
-        requires low { 1 ≤ port }
-        requires high { port ≤ length (state_of self.now).bridges.settings.ports.ports }
-        requires few { HasFewOutlets (state_of self.now).bridges.settings }
-        ensures { Decided (octets_of result) ≡ answer (state_of self.now) (frame_at now port original octets.now) }
-    {
-        let mut places = Outlets::new();
-        let course = self.course_of_frame(now, port, original, octets, &mut places);
-        Decision::of(&self.state, &course, places.as_slice())
-    }
-
-    /// What would be decided of a packet from the underlay, as [`Endpoint::packet`] decides it; the endpoint stays as it is.
-    /// `now` isn't before `self.now()`, and outlets are few. With any settings [`Endpoint::course_of_packet`] tells the same.
-    pub fn foresee_packet<'a>(&self, now: u64, original: u32, octets: &'a [u8]) -> Decision<'a>
-        requires moment { (state_of self.now).moment ≤ now }
-        requires few { HasFewOutlets (state_of self.now).bridges.settings }
-        ensures { Decided (octets_of result) ≡ answer (state_of self.now) (packet_at now original octets.now) }
-    {
-        let mut places = Outlets::new();
-        let course = self.course_of_packet(now, original, octets, &mut places);
-        Decision::of(&self.state, &course, places.as_slice())
+        let forwarding = self.take_packet(now, original, octets, &mut places);
+        Decision::of(&self.state, &forwarding, places.as_slice())
     }
 }
 
 /// Whether so many ports and the flood list of any segment are 32 together at most.
-fn are_few(ports: u8, under: &Under) -> bool
+fn are_few(ports: u8, under: &Overlay) -> bool
     ensures few { result ≡ true → AreFewOutlets ports under.now }
     ensures many { AreFewOutlets ports under.now → result ≡ true }
 {
@@ -126,7 +93,7 @@ fn are_few(ports: u8, under: &Under) -> bool
 }
 
 /// Whether so many ports and the flood list of the segment of a VID are more than 32 together.
-fn is_crowded(ports: u8, under: &Under, number: u16) -> bool
+fn is_crowded(ports: u8, under: &Overlay, number: u16) -> bool
     requires { IsVid number }
     ensures crowded { result ≡ true → 32 < ports + length (flood_at under.now number) }
     ensures few { result ≡ false → ports + length (flood_at under.now number) ≤ 32 }
@@ -135,7 +102,7 @@ fn is_crowded(ports: u8, under: &Under, number: u16) -> bool
 }
 
 /// How many remote endpoints the segment of a VID floods to, none where there is no segment.
-fn flooded(under: &Under, number: u16) -> usize
+fn flooded(under: &Overlay, number: u16) -> usize
     requires { IsVid number }
     ensures value { result ≡ length (flood_at under.now number) }
     ensures few { result ≤ 512 }

@@ -2,23 +2,23 @@
 ghost use Rattle.std.specs.Prelude.{◌≡◌, ◌++◌, [], Ok, IsSome, IsTrue, unwrap_or};
 ghost use Rattle.filter_db.specs.declared.place.Place.TheVariants.{Local, Remote};
 ghost use Rattle.encapsulate.specs.Remote.{sizes, text_behind};
-ghost use Rattle.endpoint_state.specs.Settings.{segment_at};
-ghost use Rattle.endpoint_state.specs.Step.{can_leave};
+ghost use Rattle.endpoint_core.specs.Settings.{segment_at};
+ghost use Rattle.endpoint_core.specs.StateStep.{can_leave};
 ghost use Rattle.endpoint_core.specs.Step.{has_two_tunnels, sent_at};
 
 use crate::Endpoint;
-use crate::arrival::Came;
+use crate::arrival::Arrival;
 use crate::emit::{put_head_in, size_in, tag_in};
 use encapsulate::Head;
 use filter_db::Place;
-use frame_view::Reason;
-use ip_udp_view::{Addr, Tunnel};
+use wire::ether::Reason;
+use wire::ip_udp::{Addr, Tunnel};
 
 impl Endpoint {
     ghost use Rattle.endpoint_core.specs.Kept.{state_of};
 
     /// Whether the segment of a frame has two tunnels, so that a remote is told with the kind of its tunnel.
-    pub fn has_two_tunnels(&self, came: &Came) -> bool
+    pub fn has_two_tunnels(&self, came: &Arrival) -> bool
         requires { IsSome (segment_at (state_of self.now).bridges.settings came.now.vid) }
         ensures { result ≡ has_two_tunnels (state_of self.now).bridges.settings.overlay came.now.vid }
     {
@@ -27,7 +27,7 @@ impl Endpoint {
 
     /// How many octets are sent of a frame at a place where it can leave, or why nothing is: TooBig or InnerTagOut. No head is
     /// made for it.
-    pub fn size_at(&self, came: &Came, place: Place) -> Result<usize, Reason>
+    pub fn size_at(&self, came: &Arrival, place: Place) -> Result<usize, Reason>
         requires { IsTrue (can_leave (state_of self.now).bridges.settings came.now.vid place) }
         ensures { let S = (state_of self.now).bridges.settings in
             result ≡ sizes (sent_at S came.now.vid came.now.frame place).sent }
@@ -42,7 +42,7 @@ impl Endpoint {
     #[inline(always)]
     pub fn put_head(
         &self,
-        came: &Came,
+        came: &Arrival,
         kind: Tunnel,
         addr: Addr,
         head: &mut Head,
@@ -57,7 +57,7 @@ impl Endpoint {
     /// The tag that a frame leaves with at a local port where it can leave, if it leaves with one. In front of it stand the
     /// frame's addresses, and behind it its body.
     #[inline(always)]
-    pub fn tag_at(&self, came: &Came, port: u8) -> Option<[u8; 4]>
+    pub fn tag_at(&self, came: &Arrival, port: u8) -> Option<[u8; 4]>
         requires { IsTrue (can_leave (state_of self.now).bridges.settings came.now.vid (Local port)) }
         ensures { let f = came.now.frame in
             Ok ((f.dst ++ f.src) ++ (unwrap_or result [] ++ f.body))

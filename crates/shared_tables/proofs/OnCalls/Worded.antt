@@ -18,7 +18,7 @@ use Rattle.filter_db.specs.declared.entry.Entry.{Entry}
 use Rattle.filter_db.specs.Place.{no_place}
 use Rattle.filter_db.specs.Rows.{Rows, AreUnique}
 use Rattle.filter_db.specs.Table.{is_live, mac_cmp}
-use Rattle.header_octets.specs.Octets.{IsText}
+use Rattle.wire.specs.Octets.{IsText}
 use Rattle.shared_tables.specs.declared.slots.Kind.{Kind}
 use Rattle.shared_tables.specs.declared.slots.Kind.TheVariants as kind
 use Rattle.shared_tables.specs.declared.slots.Slot.{Slot}

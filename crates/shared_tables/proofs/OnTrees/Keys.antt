@@ -2,8 +2,8 @@
 use Rattle.std.proofs.Common.{◌≡◌, ℕ, zero, suc, ◌+◌, ◌/◌, ◌%◌, ◌^◌, ◌<◌, List, [], ◌∷◌, ◌++◌, length, take, drop, get_or, refl, ap, ◌∙◌, arith}
 use Rattle.std.specs.Int.{from_be_bytes, to_be_bytes, w16, w64}
 use Rattle.std.proofs.lemmas.Nat.{be_bytes_2, be_bytes_8, from_be_bytes-to_be_bytes_2, from_be_bytes-to_be_bytes_8}
-use Rattle.header_octets.specs.Octets.{octets, IsText}
-use Rattle.header_octets.specs.Sum.{total}
+use Rattle.wire.specs.Octets.{octets, IsText}
+use Rattle.wire.specs.Sum.{total}
 use Rattle.shared_tables.specs.Bucket.{bucket_of, key_of, vid_in, mac_in}
 use Rattle.shared_tables.specs.Listing.{IsAddress}
 

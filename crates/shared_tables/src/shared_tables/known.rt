@@ -18,7 +18,7 @@ use crate::share::{Share, share_at};
 use crate::shared_tables::SharedTables;
 use crate::slots::Slots;
 use filter_db::Entry;
-use frame_view::{Mac, Vid};
+use wire::ether::{Mac, Vid};
 use work_count::Count;
 
 impl SharedTables {

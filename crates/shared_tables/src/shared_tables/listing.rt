@@ -18,8 +18,8 @@ use crate::share::{Share, share_at};
 use crate::shared_tables::SharedTables;
 use crate::slots::{Slots, put_word};
 use filter_db::Entry;
-use frame_view::{Mac, Vid};
 use std::alloc::{AllocError, Global};
+use wire::ether::{Mac, Vid};
 
 /// A listing goes over the slots where a segment has more than one in so many of them: that costs as much as to go along its
 /// lines and to sort what stands there in any order, and finds addresses in order that came in order.

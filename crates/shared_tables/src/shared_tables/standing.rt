@@ -12,7 +12,7 @@ use crate::share::{self, Share};
 use crate::shared_tables::SharedTables;
 use crate::standing;
 use filter_db::TableRule;
-use frame_view::Vid;
+use wire::ether::Vid;
 
 impl SharedTables {
     /// How many slots no segment's limit promises.

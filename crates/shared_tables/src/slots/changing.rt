@@ -8,7 +8,7 @@ use super::{Slot, Slots, kind_of};
 use crate::bucket::key;
 use crate::links::{Link, Links, Side, SlotId};
 use filter_db::Place;
-use frame_view::{Mac, Vid};
+use wire::ether::{Mac, Vid};
 
 /// Gives its entry another address.
 fn readdress(slot: &mut Slot, vid: Vid, mac: Mac)

@@ -9,8 +9,8 @@ use super::{Kind, Slot, Slots, is_dead};
 use crate::bucket::{mac_of, vid_of};
 use crate::links::SlotId;
 use filter_db::Entry;
-use frame_view::{Mac, Vid};
 use std::alloc::AllocError;
+use wire::ether::{Mac, Vid};
 
 impl Slots {
     /// What a slot holds, with its address.

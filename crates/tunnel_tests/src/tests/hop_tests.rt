@@ -1,10 +1,10 @@
 //! As many exceptions from the next hop as limits may say.
 use crate::tests::packets::{NEXT_HOP, underlay};
-use frame_view::Mac;
-use ip_udp_view::Addr;
+use overlay::underlay::{Hops, Underlay};
 use std::alloc::AllocError;
 use std::test::Fail;
-use underlay::{Hops, Underlay};
+use wire::ether::Mac;
+use wire::ip_udp::Addr;
 
 /// How many there are.
 const MOST: u16 = 4096;

@@ -1,7 +1,7 @@
 //! The values of headers, octet for octet.
 
-use layer_values::{put_values, word_of};
 use packet_layers::HeadKind;
+use packet_layers::words::{put_values, word_of};
 use std::alloc::Global;
 use std::test::Fail;
 use test_inputs::octets_of;

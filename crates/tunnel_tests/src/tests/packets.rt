@@ -1,12 +1,12 @@
 //! The addresses and the settings of an endpoint.
 ghost use Rattle.std.specs.Prelude.{◌≡◌};
 
-use frame_view::Mac;
-use geneve_head::Known;
-use ip_udp_view::{Addr, Tunnel};
+use overlay::underlay::{Hops, Limits, SegmentTunnel, Underlay};
 use std::alloc::Global;
-use underlay::{Hops, Limits, SegmentTunnel, Underlay};
-use vxlan_head::Vni;
+use wire::ether::Mac;
+use wire::geneve::Known;
+use wire::ip_udp::{Addr, Tunnel};
+use wire::vxlan::Vni;
 
 /// The next hop of all endpoints.
 pub(crate) const NEXT_HOP: Mac = Mac([0x02, 0, 0, 0, 0xAA, 0xFE]);

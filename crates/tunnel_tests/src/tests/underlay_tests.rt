@@ -2,13 +2,15 @@
 ghost use Rattle.std.specs.Prelude.{◌≡◌, [], ◌∷◌};
 
 use crate::tests::packets::{NEXT_HOP, host4, host6, octets6, tunnel, underlay};
-use flood_lists::{FloodFault, FloodList, NotThere, Own};
-use frame_view::{Mac, Vid};
-use ip_udp_view::{Addr, Tunnel};
+use overlay::flood::{FloodFault, FloodList, NotThere, Own};
+use overlay::underlay::{
+    Hops, Overlay, PeerRule, SegmentTunnel, TagRule, TunnelRule, Tunnels, Underlay,
+};
 use std::alloc::AllocError;
 use std::test::Fail;
-use underlay::{Hops, PeerRule, SegmentTunnel, TagRule, TunnelRule, Tunnels, Under, Underlay};
-use vxlan_head::Vni;
+use wire::ether::{Mac, Vid};
+use wire::ip_udp::{Addr, Tunnel};
+use wire::vxlan::Vni;
 
 /// The first port of which another kind is told.
 fn wrong_kind(underlay: &Underlay, ports: &[(u16, Option<Tunnel>)]) -> Option<u16> {
@@ -129,7 +131,7 @@ fn rule(vid: Vid, tunnel: SegmentTunnel) -> TunnelRule
 
 /// Adds a segment with one tunnel, where neither its VID nor its kind and VNI are there and the limits leave room; whether
 /// it did.
-fn add(under: &mut Under, vid: Vid, tunnel: SegmentTunnel) -> bool {
+fn add(under: &mut Overlay, vid: Vid, tunnel: SegmentTunnel) -> bool {
     let most = usize::from(under.settings().limits.segments);
     if under.segment_count() >= most || under.has(vid) || under.taken(tunnel.kind, tunnel.vni) {
         return false;
@@ -143,7 +145,7 @@ fn vid(number: u16) -> Result<Vid, Fail> {
 }
 
 /// Adds two segments, and what neither VID nor tunnel is free for; whether each is answered so.
-fn adds_two(under: &mut Under, ten: Vid, twenty: Vid) -> bool {
+fn adds_two(under: &mut Overlay, ten: Vid, twenty: Vid) -> bool {
     add(under, ten, vxlan_5000())
         && !add(under, twenty, vxlan_5000())
         && !add(under, ten, geneve_5000())
@@ -151,7 +153,7 @@ fn adds_two(under: &mut Under, ten: Vid, twenty: Vid) -> bool {
 }
 
 /// Whether VXLAN 5000 is VID 10's, and Geneve 5000 VID 20's, and VXLAN 5001 nobody's.
-fn finds_by_tunnel(under: &Under, ten: Vid, twenty: Vid) -> bool {
+fn finds_by_tunnel(under: &Overlay, ten: Vid, twenty: Vid) -> bool {
     let vni = [0x00, 0x13, 0x88];
     is_found(under, Tunnel::Vxlan, vni, Some(ten))
         && is_found(under, Tunnel::Geneve, vni, Some(twenty))
@@ -159,7 +161,7 @@ fn finds_by_tunnel(under: &Under, ten: Vid, twenty: Vid) -> bool {
 }
 
 /// Whether the tunnel with the VNI that these octets spell is this segment's, and taken; where there is none, not taken.
-fn is_found(under: &Under, kind: Tunnel, vni: [u8; 3], wanted: Option<Vid>) -> bool {
+fn is_found(under: &Overlay, kind: Tunnel, vni: [u8; 3], wanted: Option<Vid>) -> bool {
     let vni = Vni::from_octets(vni);
     let found = match under.segment_by(kind, vni) {
         Some((vid, _)) => Some(vid),
@@ -169,7 +171,7 @@ fn is_found(under: &Under, kind: Tunnel, vni: [u8; 3], wanted: Option<Vid>) -> b
 }
 
 /// Whether VID 10 has a tunnel over VXLAN, VID 20 one over Geneve, and no other is there.
-fn finds_by_vid(under: &Under, ten: Vid, twenty: Vid, thirty: Vid) -> bool {
+fn finds_by_vid(under: &Overlay, ten: Vid, twenty: Vid, thirty: Vid) -> bool {
     under.tunnel_of(ten, Tunnel::Vxlan) == Some(vxlan_5000())
         && under.tunnel_of(ten, Tunnel::Geneve).is_none()
         && under.tunnel_of(twenty, Tunnel::Geneve) == Some(geneve_5000())
@@ -177,7 +179,7 @@ fn finds_by_vid(under: &Under, ten: Vid, twenty: Vid, thirty: Vid) -> bool {
 }
 
 /// Removes a segment, where it is there, and whether it was there before and not behind.
-fn removes(under: &mut Under, vid: Vid) -> bool {
+fn removes(under: &mut Overlay, vid: Vid) -> bool {
     if !under.has(vid) {
         return false;
     }
@@ -188,7 +190,7 @@ fn removes(under: &mut Under, vid: Vid) -> bool {
 #[test]
 fn a_segment_is_found_by_its_vid_and_by_its_tunnel(rt: HostRuntime) -> Result<(), Fail> {
     let (ten, twenty, thirty) = (vid(10)?, vid(20)?, vid(30)?);
-    let mut under = Under::open(rt.alloc(), underlay(rt.alloc(), 1), Vec::new(rt.alloc()))?;
+    let mut under = Overlay::open(rt.alloc(), underlay(rt.alloc(), 1), Vec::new(rt.alloc()))?;
     assert!(rt; adds_two(&mut under, ten, twenty));
     assert!(rt; under.has(ten) && under.has(twenty) && !under.has(thirty));
     assert!(rt; finds_by_tunnel(&under, ten, twenty));
@@ -200,23 +202,23 @@ fn a_segment_is_found_by_its_vid_and_by_its_tunnel(rt: HostRuntime) -> Result<()
 }
 
 /// Adds two segments over VXLAN; whether both were.
-fn adds_two_over_vxlan(under: &mut Under, ten: Vid, twenty: Vid) -> bool {
+fn adds_two_over_vxlan(under: &mut Overlay, ten: Vid, twenty: Vid) -> bool {
     add(under, ten, tunnel(Tunnel::Vxlan, [0, 0, 1]))
         && add(under, twenty, tunnel(Tunnel::Vxlan, [0, 0, 2]))
 }
 
 /// Whether an address that is added to a segment's flood list is answered so.
-fn is_added(under: &mut Under, vid: Vid, addr: Addr, wanted: Result<(), FloodFault>) -> bool {
+fn is_added(under: &mut Overlay, vid: Vid, addr: Addr, wanted: Result<(), FloodFault>) -> bool {
     under.has(vid) && under.add_flood(vid, Tunnel::Vxlan, addr) == wanted
 }
 
 /// Whether an address that is removed from it is.
-fn is_removed(under: &mut Under, vid: Vid, addr: Addr, wanted: Result<(), NotThere>) -> bool {
+fn is_removed(under: &mut Overlay, vid: Vid, addr: Addr, wanted: Result<(), NotThere>) -> bool {
     under.has(vid) && under.remove_flood(vid, Tunnel::Vxlan, addr) == wanted
 }
 
 /// Whether a segment's flood list has so many targets.
-fn has_targets(under: &Under, vid: Vid, wanted: usize) -> bool {
+fn has_targets(under: &Overlay, vid: Vid, wanted: usize) -> bool {
     under.has(vid)
         && under.flood(vid).targets().len() == wanted
         && under.segment(vid).flood.targets().len() == wanted
@@ -225,7 +227,7 @@ fn has_targets(under: &Under, vid: Vid, wanted: usize) -> bool {
 #[test]
 fn a_flood_list_changes_alone(rt: HostRuntime) -> Result<(), Fail> {
     let (ten, twenty) = (vid(10)?, vid(20)?);
-    let mut under = Under::open(rt.alloc(), underlay(rt.alloc(), 1), Vec::new(rt.alloc()))?;
+    let mut under = Overlay::open(rt.alloc(), underlay(rt.alloc(), 1), Vec::new(rt.alloc()))?;
     assert!(rt; adds_two_over_vxlan(&mut under, ten, twenty));
     assert!(rt; is_added(&mut under, ten, host4(2), Ok(())));
     let again = Err(FloodFault::AlreadyThere);
@@ -247,14 +249,14 @@ fn two_rules_tell_two_segments(rt: HostRuntime) -> Result<(), Fail> {
         rule(ten, tunnel(Tunnel::Vxlan, [0x00, 0x13, 0x88])),
         rule(twenty, tunnel(Tunnel::Geneve, [0x00, 0x13, 0x88])),
     ]?;
-    let under = Under::open(rt.alloc(), underlay(rt.alloc(), 1), rules)?;
+    let under = Overlay::open(rt.alloc(), underlay(rt.alloc(), 1), rules)?;
     assert!(rt; under.tunnel_of(ten, Tunnel::Vxlan) == Some(vxlan_5000()));
     assert!(rt; under.tunnel_of(twenty, Tunnel::Geneve) == Some(geneve_5000()));
     Ok(())
 }
 
 /// Whether what the endpoint is told is what stands in these settings.
-fn has_settings(under: &Under) -> bool {
+fn has_settings(under: &Overlay) -> bool {
     under.settings().mtu == 1550
         && under.own().ip4 == Some([192, 0, 2, 1])
         && under.kind_at(6081) == Some(Tunnel::Geneve)
@@ -264,7 +266,7 @@ fn has_settings(under: &Under) -> bool {
 
 #[test]
 fn the_settings_stay(rt: HostRuntime) -> Result<(), Fail> {
-    let under = Under::open(rt.alloc(), underlay(rt.alloc(), 1), Vec::new(rt.alloc()))?;
+    let under = Overlay::open(rt.alloc(), underlay(rt.alloc(), 1), Vec::new(rt.alloc()))?;
     assert!(rt; has_settings(&under));
     Ok(())
 }

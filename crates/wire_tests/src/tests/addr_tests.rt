@@ -1,7 +1,7 @@
 //! Groups, and addresses that nobody has.
 use crate::tests::checks::check;
-use frame_view::Mac;
-use ip_udp_view::Addr;
+use wire::ether::Mac;
+use wire::ip_udp::Addr;
 
 /// Addresses, and whether each is a group and is usable.
 const ADDRESSES: [(&str, Addr, bool, bool); 11] = [

@@ -1,6 +1,6 @@
 use crate::tests::checks::check;
-use frame_view::{EtherView, Mac, Reason, Tagging, Tci, Vid};
 use std::process::Abort;
+use wire::ether::{EtherView, Mac, Reason, Tagging, Tci, Vid};
 
 const REASONS: [(Reason, u8, &str); 40] = [
     (Reason::TooLong, 1, "TooLong"),
@@ -65,7 +65,7 @@ fn numbers_and_names_are_those_of_the_table(rt: HostRuntime) {
 #[test]
 fn each_reason_is_listed_at_its_number(rt: HostRuntime) {
     for place in 0..40u8 {
-        let reason = frame_view::REASONS[usize::from(place)];
+        let reason = wire::ether::REASONS[usize::from(place)];
         check(&rt, reason.number() == place + 1, reason.name());
     }
 }

@@ -1,12 +1,12 @@
 use crate::tests::checks::check;
-use frame_view::Reason;
-use geneve_head::{GnFault, GnOption, GnView, Known, KnownFull, gn_head};
 use std::alloc::{AllocError, Global};
 use std::test::Fail;
-use vxlan_head::Vni;
+use wire::ether::Reason;
+use wire::geneve::{GeneveFault, GeneveOption, GeneveView, Known, KnownFull, geneve_head};
+use wire::vxlan::Vni;
 
 /// Headers, and the VNI of each.
-const HEADERS: [(&str, [u8; 8], Result<u32, GnFault>); 9] = [
+const HEADERS: [(&str, [u8; 8], Result<u32, GeneveFault>); 9] = [
     (
         "VNI 6000",
         [0, 0, 0x65, 0x58, 0x00, 0x17, 0x70, 0],
@@ -20,43 +20,43 @@ const HEADERS: [(&str, [u8; 8], Result<u32, GnFault>); 9] = [
     (
         "version 1",
         [0x40, 0x80, 0x65, 0x58, 0, 0, 0, 0],
-        Err(GnFault::BadVersion),
+        Err(GeneveFault::BadVersion),
     ),
     (
         "version 3",
         [0xC0, 0x80, 0x65, 0x58, 0, 0, 0, 0],
-        Err(GnFault::BadVersion),
+        Err(GeneveFault::BadVersion),
     ),
     (
         "version 1 and options that aren't there",
         [0x7F, 0, 0x65, 0x58, 0, 0, 0, 0],
-        Err(GnFault::BadVersion),
+        Err(GeneveFault::BadVersion),
     ),
     (
         "an option that isn't there",
         [0x01, 0x80, 0x08, 0x00, 0, 0, 0, 0],
-        Err(GnFault::ShortTunnel),
+        Err(GeneveFault::ShortTunnel),
     ),
     (
         "control and IPv4",
         [0, 0x80, 0x08, 0x00, 0, 0, 0, 0],
-        Err(GnFault::Control),
+        Err(GeneveFault::Control),
     ),
     (
         "IPv4",
         [0, 0, 0x08, 0x00, 0, 0, 0, 0],
-        Err(GnFault::NotEthernet),
+        Err(GeneveFault::NotEthernet),
     ),
     (
         "type 6559",
         [0, 0, 0x65, 0x59, 0, 0, 0, 0],
-        Err(GnFault::NotEthernet),
+        Err(GeneveFault::NotEthernet),
     ),
 ];
 
 /// Whether a packet has this VNI, or this fault.
-fn has_vni(packet: &[u8], wanted: Result<u32, GnFault>) -> bool {
-    match (GnView::read(packet, &Known::new()), wanted) {
+fn has_vni(packet: &[u8], wanted: Result<u32, GeneveFault>) -> bool {
+    match (GeneveView::read(packet, &Known::new()), wanted) {
         (Ok(view), Ok(vni)) => view.vni().get() == vni,
         (Err(fault), Err(wanted)) => fault == wanted,
         _ => false,
@@ -71,11 +71,11 @@ fn reads_headers(rt: HostRuntime) {
 }
 
 /// Eight octets of options, and how many options they are.
-const OPTIONS: [(&str, [u8; 8], Result<usize, GnFault>); 8] = [
+const OPTIONS: [(&str, [u8; 8], Result<usize, GeneveFault>); 8] = [
     (
         "a critical one",
         [0x01, 0x02, 0x80, 1, 0, 0, 0, 0],
-        Err(GnFault::CriticalOption),
+        Err(GeneveFault::CriticalOption),
     ),
     ("one", [0x01, 0x02, 0x00, 1, 0, 0, 0, 0], Ok(1)),
     (
@@ -91,32 +91,32 @@ const OPTIONS: [(&str, [u8; 8], Result<usize, GnFault>); 8] = [
     (
         "two, the second critical",
         [0x01, 0x02, 0x00, 0, 0, 0, 0x80, 0],
-        Err(GnFault::CriticalOption),
+        Err(GeneveFault::CriticalOption),
     ),
     (
         "one that is too long",
         [0x01, 0x02, 0x00, 2, 0, 0, 0, 0],
-        Err(GnFault::BadOptions),
+        Err(GeneveFault::BadOptions),
     ),
     (
         "a critical one that is too long",
         [0x01, 0x02, 0x80, 2, 0, 0, 0, 0],
-        Err(GnFault::BadOptions),
+        Err(GeneveFault::BadOptions),
     ),
     (
         "a critical one before one that is too long",
         [0x01, 0x02, 0x80, 0, 0, 0, 0, 1],
-        Err(GnFault::BadOptions),
+        Err(GeneveFault::BadOptions),
     ),
 ];
 
 /// Whether a packet with these flags, these options and two octets of payload has so many options, or this fault.
-fn has_options(flags: u8, options: [u8; 8], wanted: Result<usize, GnFault>) -> bool {
+fn has_options(flags: u8, options: [u8; 8], wanted: Result<usize, GeneveFault>) -> bool {
     let [a, b, c, d, e, f, g, h] = options;
     let packet = [
         0x02, flags, 0x65, 0x58, 0, 0x17, 0x70, 0, a, b, c, d, e, f, g, h, 0xAA, 0xBB,
     ];
-    match (GnView::read(&packet, &Known::new()), wanted) {
+    match (GeneveView::read(&packet, &Known::new()), wanted) {
         (Ok(view), Ok(count)) => view.options().count() == count,
         (Err(fault), Err(wanted)) => fault == wanted,
         _ => false,
@@ -139,7 +139,7 @@ const CRITICAL: [u8; 16] = [
 /// Whether that packet is taken where the option of this class and type is known.
 fn is_taken(class: u16, kind: u8) -> bool {
     let mut known = Known::new();
-    known.try_push(class, kind).is_ok() && GnView::read(&CRITICAL, &known).is_ok()
+    known.try_push(class, kind).is_ok() && GeneveView::read(&CRITICAL, &known).is_ok()
 }
 
 #[test]
@@ -150,24 +150,24 @@ fn takes_known_critical_options(rt: HostRuntime) {
 }
 
 /// Packets, and the octets of the header and of the payload of each.
-const LENGTHS: [(&str, &[u8], Result<(usize, usize), GnFault>); 6] = [
-    ("no octet", &[], Err(GnFault::ShortTunnel)),
+const LENGTHS: [(&str, &[u8], Result<(usize, usize), GeneveFault>); 6] = [
+    ("no octet", &[], Err(GeneveFault::ShortTunnel)),
     (
         "7 octets",
         &[0x02, 0, 0x65, 0x58, 0, 0x17, 0x70],
-        Err(GnFault::ShortTunnel),
+        Err(GeneveFault::ShortTunnel),
     ),
     (
         "12 octets",
         &[0x02, 0, 0x65, 0x58, 0, 0x17, 0x70, 0, 0x01, 0x02, 0x00, 1],
-        Err(GnFault::ShortTunnel),
+        Err(GeneveFault::ShortTunnel),
     ),
     (
         "15 octets",
         &[
             0x02, 0, 0x65, 0x58, 0, 0x17, 0x70, 0, 0x01, 0x02, 0x00, 1, 0, 0, 0,
         ],
-        Err(GnFault::ShortTunnel),
+        Err(GeneveFault::ShortTunnel),
     ),
     (
         "16 octets",
@@ -186,8 +186,8 @@ const LENGTHS: [(&str, &[u8], Result<(usize, usize), GnFault>); 6] = [
 ];
 
 /// Whether a packet has so many octets of header and of payload, or this fault.
-fn has_lengths(packet: &[u8], wanted: Result<(usize, usize), GnFault>) -> bool {
-    match (GnView::read(packet, &Known::new()), wanted) {
+fn has_lengths(packet: &[u8], wanted: Result<(usize, usize), GeneveFault>) -> bool {
+    match (GeneveView::read(packet, &Known::new()), wanted) {
         (Ok(view), Ok((head, payload))) => {
             view.head().len() == head && view.payload().len() == payload
         }
@@ -224,8 +224,8 @@ const TWO_OPTIONS: [u8; 29] = [
 ];
 
 /// The option of this number, from 0, of a packet.
-fn option_of<'a>(packet: &'a [u8], number: usize) -> Option<GnOption<'a>> {
-    match GnView::read(packet, &Known::new()) {
+fn option_of<'a>(packet: &'a [u8], number: usize) -> Option<GeneveOption<'a>> {
+    match GeneveView::read(packet, &Known::new()) {
         Ok(view) => view.options().nth(number),
         Err(_) => None,
     }
@@ -279,21 +279,21 @@ fn lists_known_options(rt: HostRuntime) -> Result<(), Fail> {
 fn writes_the_header(rt: HostRuntime) -> Result<(), Fail> {
     let vni = Vni::new(6000).ok_or("a VNI")?;
     let wanted = [0, 0, 0x65, 0x58, 0x00, 0x17, 0x70, 0];
-    check(&rt, gn_head(vni) == wanted, "VNI 6000");
+    check(&rt, geneve_head(vni) == wanted, "VNI 6000");
     Ok(())
 }
 
-const FAULTS: [(GnFault, &str); 6] = [
-    (GnFault::ShortTunnel, "ShortTunnel"),
-    (GnFault::BadVersion, "BadVersion"),
-    (GnFault::Control, "Control"),
-    (GnFault::NotEthernet, "NotEthernet"),
-    (GnFault::BadOptions, "BadOptions"),
-    (GnFault::CriticalOption, "CriticalOption"),
+const FAULTS: [(GeneveFault, &str); 6] = [
+    (GeneveFault::ShortTunnel, "ShortTunnel"),
+    (GeneveFault::BadVersion, "BadVersion"),
+    (GeneveFault::Control, "Control"),
+    (GeneveFault::NotEthernet, "NotEthernet"),
+    (GeneveFault::BadOptions, "BadOptions"),
+    (GeneveFault::CriticalOption, "CriticalOption"),
 ];
 
 /// Whether a fault has this name, and so has its reason of a drop.
-fn is_named(alloc: Global, fault: GnFault, name: &str) -> Result<bool, AllocError> {
+fn is_named(alloc: Global, fault: GeneveFault, name: &str) -> Result<bool, AllocError> {
     let text = fault.to_string(alloc)?;
     Ok(text.as_str() == name && Reason::from(fault).name() == name)
 }

@@ -1,5 +1,5 @@
 use crate::tests::checks::check;
-use header_octets::{add_words, fold, folded, ip4_sum, udp4_sum, udp6_sum, words};
+use wire::octets::{add_words, fold, folded, ip4_sum, udp4_sum, udp6_sum, words};
 
 /// A UDP header without its checksum, a VXLAN header of VNI 5000, and a broadcast frame of 60 octets.
 const UDP_AND_VXLAN: [u8; 16] = [

@@ -1,7 +1,7 @@
 use crate::tests::checks::check;
-use ip_udp_view::{Addr, BadUdp, Ip4View, Ip6View, IpFault, SumState, UdpView};
 use std::alloc::{AllocError, Global};
 use std::test::Fail;
+use wire::ip_udp::{Addr, BadUdp, Ip4View, Ip6View, IpFault, SumState, UdpView};
 
 const IP4: (Addr, Addr) = (Addr::V4([192, 0, 2, 1]), Addr::V4([192, 0, 2, 2]));
 

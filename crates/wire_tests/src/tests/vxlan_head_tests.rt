@@ -1,11 +1,11 @@
 use crate::tests::checks::check;
-use frame_view::Reason;
 use std::alloc::{AllocError, Global};
 use std::test::Fail;
-use vxlan_head::{Vni, VxFault, VxView, vx_head};
+use wire::ether::Reason;
+use wire::vxlan::{Vni, VxlanFault, VxlanView, vxlan_head};
 
 /// Packets, and the VNI and the octets of payload in each.
-const PACKETS: [(&str, &[u8], Result<(u32, usize), VxFault>); 10] = [
+const PACKETS: [(&str, &[u8], Result<(u32, usize), VxlanFault>); 10] = [
     (
         "VNI 5000",
         &[0x08, 0, 0, 0, 0x00, 0x13, 0x88, 0],
@@ -24,19 +24,19 @@ const PACKETS: [(&str, &[u8], Result<(u32, usize), VxFault>); 10] = [
     (
         "each flag but that of a VNI",
         &[0xF7, 0, 0, 0, 0x00, 0x13, 0x88, 0],
-        Err(VxFault::NoVniFlag),
+        Err(VxlanFault::NoVniFlag),
     ),
     (
         "each bit but that flag",
         &[0xF7, 0xFF, 0xFF, 0xFF, 0xFF, 0xFF, 0xFF, 0xFF],
-        Err(VxFault::NoVniFlag),
+        Err(VxlanFault::NoVniFlag),
     ),
-    ("no bit", &[0; 8], Err(VxFault::NoVniFlag)),
-    ("no octet", &[], Err(VxFault::ShortTunnel)),
+    ("no bit", &[0; 8], Err(VxlanFault::NoVniFlag)),
+    ("no octet", &[], Err(VxlanFault::ShortTunnel)),
     (
         "7 octets",
         &[0x08, 0, 0, 0, 0x00, 0x13, 0x88],
-        Err(VxFault::ShortTunnel),
+        Err(VxlanFault::ShortTunnel),
     ),
     (
         "8 octets",
@@ -51,8 +51,8 @@ const PACKETS: [(&str, &[u8], Result<(u32, usize), VxFault>); 10] = [
 ];
 
 /// Whether a packet has this VNI and so many octets of payload, or this fault.
-fn is_read(packet: &[u8], wanted: Result<(u32, usize), VxFault>) -> bool {
-    match (VxView::read(packet), wanted) {
+fn is_read(packet: &[u8], wanted: Result<(u32, usize), VxlanFault>) -> bool {
+    match (VxlanView::read(packet), wanted) {
         (Ok(view), Ok((vni, length))) => view.vni().get() == vni && view.payload().len() == length,
         (Err(fault), Err(wanted)) => fault == wanted,
         _ => false,
@@ -81,7 +81,7 @@ const HEADERS: [(&str, u32, Option<[u8; 8]>); 4] = [
 /// Whether a number is a VNI with this header, or none where no header is told.
 fn is_written(number: u32, wanted: Option<[u8; 8]>) -> bool {
     match (Vni::new(number), wanted) {
-        (Some(vni), Some(header)) => vx_head(vni) == header,
+        (Some(vni), Some(header)) => vxlan_head(vni) == header,
         (None, None) => true,
         _ => false,
     }
@@ -95,7 +95,7 @@ fn writes_the_header(rt: HostRuntime) {
 }
 
 /// Whether a fault has this name, and so has its reason of a drop.
-fn is_named(alloc: Global, fault: VxFault, name: &str) -> Result<bool, AllocError> {
+fn is_named(alloc: Global, fault: VxlanFault, name: &str) -> Result<bool, AllocError> {
     let text = fault.to_string(alloc)?;
     Ok(text.as_str() == name && Reason::from(fault).name() == name)
 }
@@ -103,8 +103,8 @@ fn is_named(alloc: Global, fault: VxFault, name: &str) -> Result<bool, AllocErro
 #[test]
 fn names_its_faults_as_the_reasons_of_a_drop(rt: HostRuntime) -> Result<(), Fail> {
     for (fault, name) in [
-        (VxFault::ShortTunnel, "ShortTunnel"),
-        (VxFault::NoVniFlag, "NoVniFlag"),
+        (VxlanFault::ShortTunnel, "ShortTunnel"),
+        (VxlanFault::NoVniFlag, "NoVniFlag"),
     ] {
         check(&rt, is_named(rt.alloc(), fault, name)?, name);
     }

@@ -1,7 +1,7 @@
 use Rattle.std.proofs.Common.{refl, sym, subst, ℕ, List, Option}
 use Rattle.std.specs.List.{FoldsTo}
 use Rattle.record_match.specs.Settled.{Fact}
-use Rattle.carried_key.specs.Key.{told_by}
+use Rattle.capture_compare.specs.Key.{told_by}
 use Rattle.capture_compare.specs.Sifted.{received_facts}
 use Rattle.capture_compare.proofs.Sifting.{facts-kept, received-aside, received-kept}
 use Rattle.capture_compare.proofs.take.take_received.Goals as goal

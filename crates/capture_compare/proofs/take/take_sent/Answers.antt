@@ -2,7 +2,7 @@ use Rattle.std.proofs.Common.{ap, sym, subst, refl, ℕ, ◌-◌, List, Option}
 use Rattle.std.specs.List.{FoldsTo}
 use Rattle.record_match.specs.Settled.{Fact}
 use Rattle.record_match.specs.Window.{at_moment}
-use Rattle.carried_key.specs.Key.{told_by}
+use Rattle.capture_compare.specs.Key.{told_by}
 use Rattle.capture_compare.specs.Compared.{takes}
 use Rattle.capture_compare.specs.Sifted.{sent_facts}
 use Rattle.capture_compare.specs.Turns.{unless_full}

@@ -2,7 +2,7 @@ use Rattle.std.proofs.Common.{◌≡◌, ◌∙◌, ap, sym, refl, arith, ℕ, �
 use Rattle.std.proofs.Common.{Result, Ok, Err, OnOk}
 use Rattle.std.proofs.lemmas.List.{map-set, get_or-map}
 use Rattle.std.proofs.lemmas.Bool.{ne_eqb}
-use Rattle.pcap_io.specs.Written.{whole_frame, written_record}
+use Rattle.pcap.specs.Written.{whole_frame, written_record}
 use Rattle.capture_run.proofs.outputs.put_at.Goals as goal
 
 on_ok : {A E P Q : Type 0} (r : Result A E) → (P → Q) → OnOk r P → OnOk r Q

@@ -1,7 +1,7 @@
 use Rattle.std.proofs.Common.{◌∙◌, ap, subst, map}
-use Rattle.overlay_settings.specs.declared.change.TimedChange.{TimedChange}
+use Rattle.overlay.specs.declared.settings.change.TimedChange.{TimedChange}
 use Rattle.timeline.specs.Order.{IsRising}
-use Rattle.endpoint_state.specs.Opened.{settings_told}
+use Rattle.endpoint_core.specs.Opened.{settings_told}
 use Rattle.capture_run.specs.Writing.{with_cuts}
 use Rattle.capture_run.proofs.Growing.{outputs_grown}
 use Rattle.capture_run.proofs.run.outputs_of.Goals as goal

@@ -1,6 +1,6 @@
 use Rattle.std.proofs.Common.{◌∙◌, ap, sym, subst, ◌+◌, ◌<◌, arith, ◌∷◌, drop, length, map}
 use Rattle.std.specs.List.{AllByRecursion}
-use Rattle.overlay_settings.specs.declared.change.TimedChange.{TimedChange}
+use Rattle.overlay.specs.declared.settings.change.TimedChange.{TimedChange}
 use Rattle.timeline.specs.Events.{IsEventOf}
 use Rattle.timeline.specs.Order.{IsRising}
 use Rattle.endpoint_core.specs.Kept.{state_of}

@@ -1,6 +1,6 @@
 use Rattle.std.proofs.Common.{◌≡◌, drop, length, map}
 use Rattle.std.specs.List.{AllByRecursion}
-use Rattle.overlay_settings.specs.declared.change.TimedChange.{TimedChange}
+use Rattle.overlay.specs.declared.settings.change.TimedChange.{TimedChange}
 use Rattle.timeline.specs.Events.{IsEventOf}
 use Rattle.timeline.specs.Order.{IsRising}
 use Rattle.endpoint_core.specs.Kept.{state_of}
@@ -14,7 +14,7 @@ invariant-loop-event l =
     let left = drop l.event-index l.events in
     record {
       all : with_events changes l.event-index (state_of l.endpoint) (seen l.outputs) left ≡ with_events changes 0 (state_of l.fn.endpoint) (seen l.fn.outputs) l.events;
-      number : l.desk.number ≡ l.event-index;
+      number : l.scratch.number ≡ l.event-index;
       rising : IsRising (state_of l.endpoint).moment left;
       known : AllByRecursion (IsEventOf (length l.changes) (length (state_of l.endpoint).bridges.settings.ports.ports)) left;
     }

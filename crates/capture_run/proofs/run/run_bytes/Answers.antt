@@ -2,10 +2,10 @@ use Rattle.std.proofs.Common.{◌≡◌, ◌∙◌, ap, sym, subst, length, map,
 use Rattle.std.proofs.lemmas.Bool.{ne_eqb, eq-eqb}
 use Rattle.overlay_config.specs.Settings.{Settings, settings_in}
 use Rattle.overlay_config.specs.Change.{changes_in}
-use Rattle.overlay_settings.specs.declared.change.TimedChange.{TimedChange}
+use Rattle.overlay.specs.declared.settings.change.TimedChange.{TimedChange}
 use Rattle.timeline.specs.Timeline as timeline
 use Rattle.timeline.specs.Timeline.{told}
-use Rattle.endpoint_state.specs.Opened.{settings_told}
+use Rattle.endpoint_core.specs.Opened.{settings_told}
 use Rattle.capture_run.specs.Fault.{of_timeline}
 use Rattle.capture_run.specs.Outputs.{outputs}
 use Rattle.capture_run.specs.Run.{Gives, run, by_timeline}

@@ -1,8 +1,8 @@
 use Rattle.std.proofs.Common.{◌≡◌, ◌∙◌, ap, sym, subst, ℕ, ◌<◌, Option, map, length, slice_index_or}
 use Rattle.std.proofs.lemmas.Result.{on_ok_weaker}
 use Rattle.timeline.specs.Events.{HappensIn}
-use Rattle.endpoint_state.specs.Change.{named}
-use Rattle.overlay_settings.specs.declared.change.TimedChange.{TimedChange}
+use Rattle.endpoint_core.specs.Change.{named}
+use Rattle.overlay.specs.declared.settings.change.TimedChange.{TimedChange}
 use Rattle.endpoint_core.specs.Event.{Input, Asks}
 use Rattle.endpoint_core.specs.Kept.{state_of}
 use Rattle.endpoint_core.specs.Step.{after, answer}
@@ -34,5 +34,5 @@ returns-in-Change-clause-outputs c =
     let changes = map (λ (t : TimedChange). t.change) c.args.changes.now in
     let found = slice_index_or c.args.changes.now c.in-Change.index c.index-changes-index.result in
     let names : named found.change ≡ named_by changes c.args.event.now.happening = ap named (sym (there step)) ∙ ap (named_by changes) (sym c.in-Change.is) in
-    let told = λ (n : Option ℕ) (input : Input). with_input c.args.desk.now.number n (seen c.args.outputs.now) c.args.event.now (answer (state_of c.args.endpoint.now) (record { at = c.args.event.now.moment; input = input })) in
+    let told = λ (n : Option ℕ) (input : Input). with_input c.args.scratch.now.number n (seen c.args.outputs.now) c.args.event.now (answer (state_of c.args.endpoint.now) (record { at = c.args.event.now.moment; input = input })) in
     on_ok_weaker c.put_change.result (λ e. e ∙ ap (λ n. told n (Asks found.change)) names ∙ ap (told (named_by changes c.args.event.now.happening)) (asked step)) c.put_change.ensures.outputs

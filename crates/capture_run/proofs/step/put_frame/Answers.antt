@@ -7,5 +7,5 @@ use Rattle.capture_run.proofs.step.put_frame.Goals as goal
 
 pub returns-clause-state : goal.returns-clause-state
 returns-clause-state c =
-    c.take_frame-course.ensures.after
+    c.take_frame-forwarding.ensures.after
     ∙ ap (λ (f : Captured). after (state_of c.args.endpoint.now) (frame_at c.args.event.now.moment c.args.port f.original f.octets)) c.frame.view_is

@@ -7,5 +7,5 @@ use Rattle.capture_run.proofs.step.put_packet.Goals as goal
 
 pub returns-clause-state : goal.returns-clause-state
 returns-clause-state c =
-    c.take_packet-course.ensures.after
+    c.take_packet-forwarding.ensures.after
     ∙ ap (λ (f : Captured). after (state_of c.args.endpoint.now) (packet_at c.args.event.now.moment f.original f.octets)) c.packet.view_is

@@ -1,4 +1,4 @@
-use Rattle.pcap_stream.specs.Source.{most_left}
+use Rattle.pcap.specs.Source.{most_left}
 use Rattle.capture_survey.proofs.Running.{HasRead}
 use Rattle.capture_survey.proofs.read.read_records.Given as goal
 

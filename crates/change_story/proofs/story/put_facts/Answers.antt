@@ -1,8 +1,8 @@
 use Rattle.std.proofs.Common.{◌≡◌, ◌∙◌, ap, List, ◌++◌, Option}
 use Rattle.std.specs.String.{string_bytes}
-use Rattle.endpoint_state.specs.Held.{state_at}
-use Rattle.endpoint_state.specs.State.{fault}
-use Rattle.endpoint_state.specs.declared.fault.ChangeFault.{ChangeFault}
+use Rattle.endpoint_core.specs.Held.{state_at}
+use Rattle.endpoint_core.specs.State.{fault}
+use Rattle.endpoint_core.specs.declared.state.fault.ChangeFault.{ChangeFault}
 use Rattle.change_story.specs.Change.{change_line}
 use Rattle.change_story.specs.Checks.{checks, found_unless, refusal, told}
 use Rattle.change_story.specs.Seen.{seen_text}

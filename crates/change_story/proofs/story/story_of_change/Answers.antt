@@ -2,11 +2,11 @@ use Rattle.std.proofs.Common.{◌≡◌, ◌≤◌, ◌∙◌, ap, arith, sym, �
 use Rattle.std.specs.Prelude.{codes, nat_le}
 use Rattle.std.specs.String.{string_bytes}
 use Rattle.std.proofs.lemmas.Bool.{cond-true, le-leb}
-use Rattle.endpoint_state.specs.Change.{named}
-use Rattle.endpoint_state.specs.Held.{state_at}
-use Rattle.endpoint_state.specs.State.{State as Bridges, aged, fault}
-use Rattle.endpoint_state.specs.declared.fault.ChangeFault.{ChangeFault}
-use Rattle.endpoint_state.proofs.LaterLemmas.{held-later}
+use Rattle.endpoint_core.specs.Change.{named}
+use Rattle.endpoint_core.specs.Held.{state_at}
+use Rattle.endpoint_core.specs.State.{State as Bridges, aged, fault}
+use Rattle.endpoint_core.specs.declared.state.fault.ChangeFault.{ChangeFault}
+use Rattle.endpoint_core.proofs.LaterLemmas.{held-later}
 use Rattle.endpoint_core.specs.Event.{change_at}
 use Rattle.endpoint_core.specs.Kept.{state_of}
 use Rattle.endpoint_core.specs.Step.{answer}

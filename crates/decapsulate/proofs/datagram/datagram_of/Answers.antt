@@ -1,8 +1,8 @@
 use Rattle.std.proofs.Common.{sym, ap, ◌∙◌}
-use Rattle.frame_view.specs.First.{first}
-use Rattle.ip_udp_view.specs.declared.udp_view.SumState.{SumState}
+use Rattle.wire.specs.First.{first}
+use Rattle.wire.specs.declared.ip_udp.udp_view.SumState.{SumState}
 use Rattle.decapsulate.specs.Arrival.{Packet, sum_reasons, datagram_reasons}
-use Rattle.underlay.specs.Settings.{kind_at}
+use Rattle.overlay.specs.UnderlaySettings.{kind_at}
 use Rattle.decapsulate.proofs.PacketLemmas.{datagram-sum}
 use Rattle.decapsulate.proofs.datagram.datagram_of.Goals as goal
 

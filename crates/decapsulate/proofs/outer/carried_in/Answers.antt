@@ -1,7 +1,7 @@
 use Rattle.std.proofs.Common.{◌∙◌, Some, sym, ap}
 use Rattle.std.proofs.lemmas.Result.{err_from_is_err_and}
 use Rattle.decapsulate.specs.Arrival.{kind_to, packet_reasons, datagram_reasons, tunnel_reasons}
-use Rattle.frame_view.specs.First.{first}
+use Rattle.wire.specs.First.{first}
 use Rattle.decapsulate.proofs.ReasonsLemmas.{carried-packet, carried-datagram, carried-tunnel}
 use Rattle.decapsulate.proofs.outer.carried_in.Goals as goal
 

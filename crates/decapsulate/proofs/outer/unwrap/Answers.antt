@@ -1,10 +1,10 @@
 use Rattle.std.proofs.Common.{◌≡◌, ◌≤◌, ◌∙◌, List, ℕ, length, ap, arith, sym, Some, None, Err}
-use Rattle.frame_view.specs.First.{first, unless}
-use Rattle.frame_view.specs.Frame.{frame_of}
-use Rattle.frame_view.specs.Refusal.{as_refused}
-use Rattle.frame_view.specs.declared.reason.Reason.{Reason}
-use Rattle.ip_udp_view.specs.Udp.{data_of}
-use Rattle.underlay.specs.Overlay.{Overlay}
+use Rattle.wire.specs.First.{first, unless}
+use Rattle.wire.specs.Frame.{frame_of}
+use Rattle.wire.specs.Refusal.{as_refused}
+use Rattle.wire.specs.declared.ether.reason.Reason.{Reason}
+use Rattle.wire.specs.Udp.{data_of}
+use Rattle.overlay.specs.Overlay.{Overlay}
 use Rattle.decapsulate.specs.Arrival.{packet_in, inner_of, kind_to, outer_reasons, carried_reasons, arrival_by, arrival}
 use Rattle.decapsulate.proofs.PlaceLemmas.{plain-inner}
 use Rattle.decapsulate.proofs.ReasonsLemmas.{outer-frame, outer-carried}

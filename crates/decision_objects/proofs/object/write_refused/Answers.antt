@@ -1,5 +1,5 @@
 use Rattle.std.proofs.Common.{◌≡◌, ◌∙◌, ◌++◌, ap, ℕ, List, codes, decimal}
-use Rattle.endpoint_state.specs.Fault.{name_of, number_of}
+use Rattle.endpoint_core.specs.Fault.{name_of, number_of}
 use Rattle.decision_objects.specs.Objects.{end_text, number_text}
 use Rattle.decision_objects.proofs.Texts.{of_refused, put_four}
 use Rattle.decision_objects.proofs.object.write_refused.Goals as goal

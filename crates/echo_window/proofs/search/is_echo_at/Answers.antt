@@ -1,5 +1,5 @@
 use Rattle.std.proofs.Common.{◌≡◌, ◌-◌, ◌&&◌, ℕ, Bool, List, take, drop, refl, sym, ap, ◌∙◌, suc, arith}
-use Rattle.header_octets.specs.Octets.{is_same}
+use Rattle.wire.specs.Octets.{is_same}
 use Rattle.echo_window.specs.Laid.{lengths, told}
 use Rattle.echo_window.specs.declared.kept.Kept.{Kept}
 use Rattle.echo_window.proofs.Indexing.{placed-at}

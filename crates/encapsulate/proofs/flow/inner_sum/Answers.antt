@@ -1,5 +1,5 @@
 use Rattle.std.proofs.Common.{sym, ap, ◌∙◌}
-use Rattle.ip_udp_view.specs.Ip.{Ip4, Ip6}
+use Rattle.wire.specs.Ip.{Ip4, Ip6}
 use Rattle.encapsulate.specs.Flow.{ports_sum}
 use Rattle.encapsulate.proofs.FlowLemmas.{inner-ip4, inner-ip6, inner-none}
 use Rattle.encapsulate.proofs.flow.inner_sum.Goals as goal

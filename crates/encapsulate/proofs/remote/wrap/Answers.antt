@@ -1,5 +1,5 @@
 use Rattle.std.proofs.Common.{◌∙◌, ap, Result, Ok}
-use Rattle.frame_view.specs.declared.reason.Reason.{Reason}
+use Rattle.wire.specs.declared.ether.reason.Reason.{Reason}
 use Rattle.encapsulate.specs.Emission.{Parts}
 use Rattle.encapsulate.proofs.PartsLemmas.{parts-sent, parts-refused}
 use Rattle.encapsulate.proofs.remote.wrap.Goals as goal

@@ -1,8 +1,8 @@
 use Rattle.std.proofs.Common.{◌∙◌, ◌++◌, ap, sym, refl}
 use Rattle.std.specs.Option.{option_copied}
-use Rattle.frame_view.specs.Frame.{plain}
-use Rattle.ip_udp_view.specs.declared.addr.Addr.TheVariants.{V4, V6}
-use Rattle.underlay.specs.Overlay.{tunnel_at}
+use Rattle.wire.specs.Frame.{plain}
+use Rattle.wire.specs.declared.ip_udp.addr.Addr.TheVariants.{V4, V6}
+use Rattle.overlay.specs.Overlay.{tunnel_at}
 use Rattle.encapsulate.specs.Packet.{packet4, packet6}
 use Rattle.encapsulate.proofs.RemoteLemmas.{written}
 use Rattle.encapsulate.proofs.remote.write_head.Goals as goal

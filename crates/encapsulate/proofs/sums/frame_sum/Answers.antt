@@ -1,7 +1,7 @@
 use Rattle.std.proofs.Common.{◌≡◌, ◌∙◌, ◌+◌, ◌++◌, ap, sym, arith, take, drop}
 use Rattle.std.proofs.lemmas.List.{take-append-drop}
-use Rattle.header_octets.specs.Sum.{total, folded}
-use Rattle.frame_view.specs.Frame.{Frame}
+use Rattle.wire.specs.Sum.{total, folded}
+use Rattle.wire.specs.Frame.{Frame}
 use Rattle.encapsulate.specs.Packet.{frame_sum}
 use Rattle.encapsulate.proofs.SumsLemmas.{frame-sum}
 use Rattle.encapsulate.proofs.sums.frame_sum.Goals as goal

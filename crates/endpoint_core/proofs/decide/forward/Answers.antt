@@ -1,7 +1,7 @@
 use Rattle.std.proofs.Common.{sym, ap, subst}
 use Rattle.std.specs.Prelude.{IsSome}
-use Rattle.endpoint_state.specs.Settings.{Settings, segment_at}
-use Rattle.endpoint_state.specs.State.{State}
+use Rattle.endpoint_core.specs.Settings.{Settings, segment_at}
+use Rattle.endpoint_core.specs.State.{State}
 use Rattle.endpoint_core.proofs.decide.forward.Goals as goal
 
 pub returns-in-Ok-clause-there : goal.returns-in-Ok-clause-there

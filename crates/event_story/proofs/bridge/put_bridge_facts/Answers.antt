@@ -1,13 +1,13 @@
 use Rattle.std.proofs.Common.{◌≡◌, ◌∙◌, ◌++◌, ap, subst, ℕ, List}
 use Rattle.std.specs.Prelude.{OnOk, IfSome}
 use Rattle.std.specs.FinMap.{get, len}
-use Rattle.frame_view.specs.Address.{is_group}
-use Rattle.frame_view.specs.Frame.{Frame}
+use Rattle.wire.specs.Address.{is_group}
+use Rattle.wire.specs.Frame.{Frame}
 use Rattle.filter_db.specs.Table.{nanoseconds}
 use Rattle.tunnel_learning.specs.Bridge as bridges
-use Rattle.endpoint_state.specs.Held.{settings_of, state_at}
-use Rattle.endpoint_state.specs.Settings.{segment_at}
-use Rattle.endpoint_state.specs.Step.{after_frame, config_of}
+use Rattle.endpoint_core.specs.Held.{settings_of, state_at}
+use Rattle.endpoint_core.specs.Settings.{segment_at}
+use Rattle.endpoint_core.specs.StateStep.{after_frame, config_of}
 use Rattle.event_story.specs.declared.fact.Fact.{Fact}
 use Rattle.event_story.proofs.BridgeLemmas.{bridge-told}
 use Rattle.event_story.proofs.bridge.put_bridge_facts.Goals as goal

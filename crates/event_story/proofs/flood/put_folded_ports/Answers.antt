@@ -6,7 +6,7 @@ use Rattle.std.proofs.lemmas.List.{flat_map_more, length-map}
 use Rattle.std.proofs.lemmas.List.FromFn.{map-range_with_len_more}
 use Rattle.filter_db.specs.declared.place.Place.{Place}
 use Rattle.filter_db.specs.declared.place.Place.TheVariants.{Local}
-use Rattle.vlan_ports.specs.declared.port.PortRule.{PortRule}
+use Rattle.overlay.specs.declared.ports.port.PortRule.{PortRule}
 use Rattle.tunnel_learning.specs.Bridge.{config_of}
 use Rattle.event_story.specs.Bridge.{left_among, left_out}
 use Rattle.event_story.specs.Neighbours.{folded}

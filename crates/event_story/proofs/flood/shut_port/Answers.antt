@@ -1,7 +1,7 @@
 use Rattle.std.proofs.Common.{◌≡◌, ◌∙◌, sym, true, None}
 use Rattle.std.specs.Option.{unwrap_or}
 use Rattle.std.specs.FinMap.{empty, get}
-use Rattle.vlan_ports.specs.Ports.{members_at}
+use Rattle.overlay.specs.Ports.{members_at}
 use Rattle.tunnel_learning.specs.Bridge.{config_of, is_up_at}
 use Rattle.tunnel_learning.proofs.BridgeLemmas.{egress-members}
 use Rattle.event_story.proofs.BridgeLemmas.{no-member}

@@ -1,6 +1,6 @@
 use Rattle.std.proofs.Common.{◌≡◌, List, ◌++◌, drop, map}
 use Rattle.filter_db.specs.declared.place.Place.{Place}
-use Rattle.endpoint_state.specs.Held.{settings_of}
+use Rattle.endpoint_core.specs.Held.{settings_of}
 use Rattle.endpoint_core.specs.Step.{sent_at}
 use Rattle.event_story.specs.declared.fact.Fact.{Fact}
 use Rattle.event_story.specs.Outlets.{outlet_facts}

@@ -1,7 +1,7 @@
 use Rattle.std.proofs.Common.{◌≡◌, ◌∙◌, List, ℕ, ◌++◌, ap, append_assoc, subst}
 use Rattle.std.specs.Prelude.{OnOk, codes, decimal}
 use Rattle.std.specs.String.{string_bytes}
-use Rattle.story_words.specs.Words.{tunnel_word}
+use Rattle.change_story.specs.Words.{tunnel_word}
 use Rattle.event_story.proofs.phrase.put_no_vni.Goals as goal
 
 pub returns : goal.returns

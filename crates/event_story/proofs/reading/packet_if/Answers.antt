@@ -1,9 +1,9 @@
 use Rattle.std.proofs.Common.{rules, ◌≡◌, ◌∙◌, List, ℕ, drop, ap, cond, Option, Some, None}
 use Rattle.std.specs.Prelude.{is_none}
-use Rattle.frame_view.specs.First.{first}
-use Rattle.frame_view.specs.Tag.{without_tags}
-use Rattle.frame_view.specs.declared.reason.Reason.{Reason}
-use Rattle.ip_udp_view.specs.Datagram.{behind_tags}
+use Rattle.wire.specs.First.{first}
+use Rattle.wire.specs.Tag.{without_tags}
+use Rattle.wire.specs.declared.ether.reason.Reason.{Reason}
+use Rattle.wire.specs.Datagram.{behind_tags}
 use Rattle.decapsulate.specs.Arrival.{family_named, frame_reasons, packet_at, packet_in}
 use Rattle.decapsulate.proofs.PacketLemmas.{packet_of-parts}
 use Rattle.event_story.proofs.reading.packet_if.Goals as goal

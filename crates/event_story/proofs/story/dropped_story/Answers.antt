@@ -1,7 +1,7 @@
 use Rattle.std.proofs.Common.{◌∙◌, ap, ℕ, List, [], ◌++◌, Some}
-use Rattle.frame_view.specs.Refusal.{within}
-use Rattle.frame_view.specs.declared.reason.Refused.{Refused}
-use Rattle.endpoint_state.specs.State.{aged}
+use Rattle.wire.specs.Refusal.{within}
+use Rattle.wire.specs.declared.ether.reason.Refused.{Refused}
+use Rattle.endpoint_core.specs.State.{aged}
 use Rattle.endpoint_core.specs.Decision.{refused_as}
 use Rattle.endpoint_core.specs.Kept.{state_of}
 use Rattle.endpoint_core.specs.Step.{Decided}

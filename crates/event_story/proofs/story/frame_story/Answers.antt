@@ -1,6 +1,6 @@
 use Rattle.std.proofs.Common.{◌∙◌, ap, List, ◌++◌}
-use Rattle.vlan_ports.specs.Ports.{Ports}
-use Rattle.endpoint_state.specs.Held.{Held, settings_of}
+use Rattle.overlay.specs.Ports.{Ports}
+use Rattle.endpoint_core.specs.Held.{Held, settings_of}
 use Rattle.endpoint_core.specs.Kept.{state_of}
 use Rattle.event_story.specs.Local.{local_facts_of}
 use Rattle.event_story.specs.declared.fact.Fact.{Fact}

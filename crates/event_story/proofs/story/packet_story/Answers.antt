@@ -1,6 +1,6 @@
 use Rattle.std.proofs.Common.{◌∙◌, ap, List, ◌++◌}
-use Rattle.underlay.specs.Overlay.{Overlay}
-use Rattle.endpoint_state.specs.Held.{Held, settings_of}
+use Rattle.overlay.specs.Overlay.{Overlay}
+use Rattle.endpoint_core.specs.Held.{Held, settings_of}
 use Rattle.endpoint_core.specs.Kept.{state_of}
 use Rattle.event_story.specs.Packet.{packet_facts_of}
 use Rattle.event_story.specs.declared.fact.Fact.{Fact}

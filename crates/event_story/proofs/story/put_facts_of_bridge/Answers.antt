@@ -1,8 +1,8 @@
 use Rattle.std.proofs.Common.{◌≡◌, ◌∙◌, ap, arith, subst, ℕ, List, ◌++◌}
 use Rattle.std.specs.Prelude.{OnOk}
-use Rattle.endpoint_state.specs.Held.{state_at}
-use Rattle.endpoint_state.specs.State.{aged}
-use Rattle.endpoint_state.proofs.LaterLemmas.{held-later}
+use Rattle.endpoint_core.specs.Held.{state_at}
+use Rattle.endpoint_core.specs.State.{aged}
+use Rattle.endpoint_core.proofs.LaterLemmas.{held-later}
 use Rattle.endpoint_core.specs.Kept.{state_of}
 use Rattle.event_story.specs.Bridge.{bridge_facts}
 use Rattle.event_story.specs.declared.fact.Fact.{Fact}

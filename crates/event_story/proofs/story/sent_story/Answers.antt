@@ -1,8 +1,8 @@
 use Rattle.std.proofs.Common.{◌∙◌, ap, map, ℕ, List, None, Ok}
-use Rattle.frame_view.specs.Frame.{Frame}
-use Rattle.endpoint_state.specs.Held.{Held, settings_of}
-use Rattle.endpoint_state.specs.Settings.{Settings}
-use Rattle.endpoint_state.specs.State.{aged}
+use Rattle.wire.specs.Frame.{Frame}
+use Rattle.endpoint_core.specs.Held.{Held, settings_of}
+use Rattle.endpoint_core.specs.Settings.{Settings}
+use Rattle.endpoint_core.specs.State.{aged}
 use Rattle.endpoint_core.specs.Kept.{state_of}
 use Rattle.endpoint_core.specs.Step.{Decided, by_verdict, sent_at}
 use Rattle.event_story.specs.Bridge.{bridge_facts}

@@ -2,7 +2,7 @@ use Rattle.std.proofs.Common.{◌≡◌, subst, List, ℕ, ◌++◌}
 use Rattle.std.specs.Prelude.{IfOk}
 use Rattle.std.specs.List.{flat_map}
 use Rattle.timeline.specs.Order.{IsRising}
-use Rattle.endpoint_state.specs.Opened.{settings_told}
+use Rattle.endpoint_core.specs.Opened.{settings_told}
 use Rattle.endpoint_core.specs.Kept.{state_of}
 use Rattle.decision_lines.specs.Lines.{cut_line}
 use Rattle.explanation.specs.Explanation.{explanation}

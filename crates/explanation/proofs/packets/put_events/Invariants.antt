@@ -12,7 +12,7 @@ invariant-loop-event l =
     let left = drop l.event-index l.events in
     record {
       all : l.text.items ++ texts_from l.depth l.values l.event-index (state_of l.endpoint) left ≡ l.fn.text.items ++ texts_from l.depth l.values 0 (state_of l.fn.endpoint) l.events;
-      number : l.desk.number ≡ l.event-index;
+      number : l.scratch.number ≡ l.event-index;
       rising : IsRising (state_of l.endpoint).moment left;
       known : AllByRecursion (IsEventOf 0 0) left;
     }

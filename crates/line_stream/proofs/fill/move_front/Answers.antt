@@ -1,5 +1,5 @@
 use Rattle.std.proofs.Common.{◌∙◌, ◌-◌, ap, take}
-use Rattle.pcap_stream.proofs.Blocks.{shifted}
+use Rattle.pcap.proofs.Blocks.{shifted}
 use Rattle.line_stream.proofs.fill.move_front.Goals as goal
 
 pub returns-clause-moved : goal.returns-clause-moved

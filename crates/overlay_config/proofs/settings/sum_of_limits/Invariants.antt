@@ -1,5 +1,5 @@
 use Rattle.std.proofs.Common.{◌≡◌, ◌*◌, ◌≤◌, take}
-use Rattle.overlay_settings.specs.Settings.{sum_of_limits}
+use Rattle.overlay.specs.Settings.{sum_of_limits}
 use Rattle.overlay_config.proofs.settings.sum_of_limits.Given as goal
 
 abbrev pub invariant-loop-segment : goal.invariant-loop-segment

@@ -1,8 +1,8 @@
 use Rattle.std.proofs.Common.{◌≡◌, ◌≢◌, ◌≤◌, length, drop, Option, Some, None, refl, sym, ap, ◌∙◌, arith}
 use Rattle.std.proofs.lemmas.Result.{err_from_is_err_and}
-use Rattle.frame_view.specs.declared.reason.Reason.TheVariants.{NotTunnel}
-use Rattle.ip_udp_view.specs.Datagram.{behind_tags}
-use Rattle.ip_udp_view.specs.declared.addr.Tunnel.{Tunnel}
+use Rattle.wire.specs.declared.ether.reason.Reason.TheVariants.{NotTunnel}
+use Rattle.wire.specs.Datagram.{behind_tags}
+use Rattle.wire.specs.declared.ip_udp.addr.Tunnel.{Tunnel}
 use Rattle.packet_layers.specs.declared.kind.Stop.TheVariants.{At, Deep}
 use Rattle.packet_layers.specs.Apart.{Apart}
 use Rattle.packet_layers.specs.Dissection.{Taken, stopped, tunnel_off}

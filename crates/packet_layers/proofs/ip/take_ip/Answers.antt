@@ -1,7 +1,7 @@
 use Rattle.std.proofs.Common.{◌≡◌, ◌∙◌, List, ℕ, drop, sym, ap}
-use Rattle.ip_udp_view.specs.Ip.{packet_parts}
-use Rattle.ip_udp_view.specs.Parts.{Parts}
-use Rattle.ip_udp_view.specs.View.{parts_of}
+use Rattle.wire.specs.Ip.{packet_parts}
+use Rattle.wire.specs.IpParts.{Parts}
+use Rattle.wire.specs.IpView.{parts_of}
 use Rattle.decapsulate.specs.Arrival.{family_named}
 use Rattle.decapsulate.proofs.PacketLemmas.{packet_of-parts}
 use Rattle.packet_layers.specs.Apart.{split}

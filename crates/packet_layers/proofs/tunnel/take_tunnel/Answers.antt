@@ -1,9 +1,9 @@
 use Rattle.std.proofs.Common.{◌∙◌, sym, ap, option_map}
 use Rattle.std.proofs.lemmas.Result.{err_from_is_err_and}
-use Rattle.ip_udp_view.specs.declared.addr.Tunnel.TheVariants.{Geneve}
+use Rattle.wire.specs.declared.ip_udp.addr.Tunnel.TheVariants.{Geneve}
 use Rattle.decapsulate.specs.Arrival.{tunnel_reasons}
-use Rattle.frame_view.specs.First.{first}
-use Rattle.geneve_head.specs.Reading.{geneve_faults, reason_of}
+use Rattle.wire.specs.First.{first}
+use Rattle.wire.specs.GeneveReading.{geneve_faults, reason_of}
 use Rattle.decapsulate.proofs.PacketLemmas.{first-as_reasons}
 use Rattle.packet_layers.proofs.tunnel.take_tunnel.Goals as goal
 

@@ -1,5 +1,5 @@
 use Rattle.std.proofs.Common.{Ok, Err, refl, ap, map}
-use Rattle.pcap_stream.specs.declared.fault.WriteFault.{WriteFault}
+use Rattle.pcap.specs.declared.stream.fault.WriteFault.{WriteFault}
 use Rattle.timeline.specs.declared.source.Tap.TheVariants.{Underlay}
 use Rattle.part_merge.specs.Blame.{sink_health}
 use Rattle.part_merge.specs.declared.fault.MergeFault.TheVariants as faults

@@ -1,8 +1,8 @@
 use Rattle.std.proofs.Common.{◌≡◌, ◌≢◌, ◌∙◌, ◌+◌, ◌<◌, refl, ap, length, map, inl, inr, slice_index_or, arith, Ok, Err}
 use Rattle.std.proofs.lemmas.Bool.{cases_lt}
 use Rattle.std.proofs.lemmas.List.{get_or-set_other, get_or-set_same, get_or_default}
-use Rattle.pcap_io.specs.Written.{written_header}
-use Rattle.pcap_stream.specs.declared.fault.WriteFault.{WriteFault}
+use Rattle.pcap.specs.Written.{written_header}
+use Rattle.pcap.specs.declared.stream.fault.WriteFault.{WriteFault}
 use Rattle.timeline.specs.declared.source.Tap.TheVariants.{Port, Underlay}
 use Rattle.part_merge.specs.Blame.{sink_health}
 use Rattle.part_merge.specs.declared.fault.MergeFault.TheVariants as faults

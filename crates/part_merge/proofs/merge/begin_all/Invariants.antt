@@ -1,6 +1,6 @@
 use Rattle.std.proofs.Common.{◌≡◌, ◌<◌, ◌≤◌, ℕ, map, slice_index_or}
-use Rattle.pcap_io.specs.Written.{written_header}
-use Rattle.pcap_stream.specs.Sink.{Drain}
+use Rattle.pcap.specs.Written.{written_header}
+use Rattle.pcap.specs.Sink.{Drain}
 use Rattle.part_merge.specs.Blame.{sink_health}
 use Rattle.part_merge.specs.Left.{IsAdded}
 use Rattle.part_merge.proofs.merge.begin_all.Given as goal

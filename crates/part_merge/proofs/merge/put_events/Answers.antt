@@ -1,6 +1,6 @@
 use Rattle.std.proofs.Common.{◌≡◌, ◌∙◌, ℕ, List, [], None, Err, true, false, refl, sym, subst, length, slice_index_or, arith}
 use Rattle.std.proofs.lemmas.Result.{on_ok_weaker}
-use Rattle.pcap_stream.specs.Source.{New, Stream}
+use Rattle.pcap.specs.Source.{New, Stream}
 use Rattle.part_merge.specs.Coming.{OpenPart}
 use Rattle.part_merge.specs.Left.{AreKept}
 use Rattle.part_merge.specs.Merged.{capture_at, merged}

@@ -1,6 +1,6 @@
 use Rattle.std.proofs.Common.{◌≡◌, ◌++◌, rules, true, false, length, refl, arith, ap, sym, subst, List, Err}
 use Rattle.std.proofs.lemmas.List.{with_items_is, places}
-use Rattle.pcap_stream.specs.Source.{Stream}
+use Rattle.pcap.specs.Source.{Stream}
 use Rattle.part_merge.specs.Blame.{CapturesRead, MatchRead}
 use Rattle.part_merge.specs.Left.{AreLeft, IsTap}
 use Rattle.part_merge.specs.Waiting.{TakesRead}

@@ -1,5 +1,5 @@
 use Rattle.std.proofs.Common.{◌≡◌, sym, subst, false, Err}
-use Rattle.pcap_stream.specs.Source.{holds_next}
+use Rattle.pcap.specs.Source.{holds_next}
 use Rattle.part_merge.specs.Blame.{SinkWrites, SourceReads}
 use Rattle.part_merge.specs.declared.fault.MergeFault.{MergeFault}
 use Rattle.part_merge.proofs.Blaming.{stopped_reads, stopped_writes}

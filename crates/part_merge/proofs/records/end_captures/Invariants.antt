@@ -1,5 +1,5 @@
 use Rattle.std.proofs.Common.{◌≡◌, ◌≤◌, ℕ, length, map, slice_index_or}
-use Rattle.pcap_stream.specs.Source.{Stream}
+use Rattle.pcap.specs.Source.{Stream}
 use Rattle.part_merge.specs.Blame.{source_health}
 use Rattle.part_merge.proofs.records.end_captures.Given as goal
 

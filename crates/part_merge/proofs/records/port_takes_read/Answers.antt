@@ -1,5 +1,5 @@
 use Rattle.std.proofs.Common.{◌-◌, ◌<◌, ◌∙◌, ap, not, sym, length, arith}
-use Rattle.pcap_stream.specs.Source.{holds_next}
+use Rattle.pcap.specs.Source.{holds_next}
 use Rattle.part_merge.proofs.Waits.{lacks_port, takes_port}
 use Rattle.part_merge.proofs.records.port_takes_read.Goals as goal
 

@@ -1,5 +1,5 @@
 use Rattle.std.proofs.Common.{◌≡◌, ◌∙◌, sym, ap, subst, ℕ, inl, inr, arith, Some}
-use Rattle.frame_view.specs.Tag.{IsVid}
+use Rattle.wire.specs.Tag.{IsVid}
 use Rattle.std.proofs.lemmas.Bool.{cases_lt}
 use Rattle.part_record.specs.Parting.{times}
 use Rattle.part_record.proofs.parting.part_all.Goals as goal

@@ -1,5 +1,5 @@
 use Rattle.std.proofs.Common.{◌≡◌, ◌≤◌}
-use Rattle.pcap_stream.specs.Supply.{Spends}
+use Rattle.pcap.specs.Supply.{Spends}
 use Rattle.pcapng_input.specs.Filled.{KeepsText, octets_left}
 use Rattle.pcapng_input.proofs.filling.fill.Given as goal
 

@@ -1,6 +1,6 @@
 use Rattle.std.proofs.Common.{◌≡◌, ◌≤◌, length}
 use Rattle.std.specs.Io.KnownBytes.{Consumes}
-use Rattle.pcap_stream.specs.Supply.{Spends}
+use Rattle.pcap.specs.Supply.{Spends}
 use Rattle.pcapng_input.specs.Filled.{octets_left}
 use Rattle.pcapng_input.proofs.filling.number_next.Given as goal
 

@@ -1,6 +1,6 @@
 use Rattle.std.proofs.Common.{◌≡◌, ◌∙◌, Ok, Some, ap, drop, subst, sym}
 use Rattle.std.specs.Prelude.{IfSome}
-use Rattle.pcap_io.specs.Record.{IsWithinLimits}
+use Rattle.pcap.specs.Record.{IsWithinLimits}
 use Rattle.pcapng_input.proofs.Fronts.{bare_front}
 use Rattle.pcapng_input.specs.Front.{IsFrontPacket, body_of}
 use Rattle.pcapng_input.specs.Packet.{enhanced_head, packet_record}

@@ -1,5 +1,5 @@
 use Rattle.std.proofs.Common.{◌≡◌, ◌≤◌, ◌∙◌, ap, arith, length, refl, sym}
-use Rattle.pcap_io.specs.Style.{number_of}
+use Rattle.pcap.specs.Style.{number_of}
 use Rattle.pcapng_input.proofs.Leads.{closed_placed, end_faulty, end_more, end_whole}
 use Rattle.pcapng_input.proofs.reading.pass_end.Goals as goal
 

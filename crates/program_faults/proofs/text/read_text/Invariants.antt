@@ -1,6 +1,6 @@
 use Rattle.std.proofs.Common.{◌≡◌, ◌≤◌, length}
 use Rattle.std.specs.Io.KnownBytes.{Consumes}
-use Rattle.pcap_stream.specs.Counts.{GoesOnBy}
+use Rattle.pcap.specs.Counts.{GoesOnBy}
 use Rattle.program_faults.proofs.text.read_text.Given as goal
 
 -- so many reads brought the text, each some of it, and none failed

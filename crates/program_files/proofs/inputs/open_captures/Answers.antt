@@ -1,7 +1,7 @@
 use Rattle.std.proofs.Common.{◌≡◌, ◌+◌, ◌∷◌, [], ◌++◌, List, Bor, ℕ, All, arith, refl, rules, sym, subst, take}
 use Rattle.std.proofs.lemmas.List.{take_all}
 use Rattle.std.proofs.lemmas.List.Elements.{All-push}
-use Rattle.pcap_stream.specs.Source.{New, Stream}
+use Rattle.pcap.specs.Source.{New, Stream}
 use Rattle.program_files.specs.Opened.{AreOpened}
 use Rattle.program_files.proofs.Opening.{one_more}
 use Rattle.program_files.proofs.inputs.open_captures.Goals as goal

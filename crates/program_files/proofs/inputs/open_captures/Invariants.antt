@@ -1,5 +1,5 @@
 use Rattle.std.proofs.Common.{◌≡◌, All, length, take}
-use Rattle.pcap_stream.specs.Source.{New, Stream}
+use Rattle.pcap.specs.Source.{New, Stream}
 use Rattle.program_files.specs.Opened.{AreOpened}
 use Rattle.program_files.proofs.inputs.open_captures.Given as goal
 

@@ -1,5 +1,5 @@
 use Rattle.std.proofs.Common.{◌≡◌, ◌∙◌, [], ap}
-use Rattle.pcap_stream.specs.Block.{Block}
+use Rattle.pcap.specs.Block.{Block}
 use Rattle.program_files.proofs.Handing.{told_by_file}
 use Rattle.program_files.proofs.outputs.empty.Goals as goal
 

@@ -1,6 +1,6 @@
 use Rattle.std.proofs.Common.{◌∙◌, ◌-◌, ℕ, List, ap, drop, length, sym, take, arith}
 use Rattle.std.proofs.lemmas.List.{take_rest}
-use Rattle.header_octets.specs.Octets.{is_same}
+use Rattle.wire.specs.Octets.{is_same}
 use Rattle.record_match.proofs.Texts.{more-same, same-behind}
 use Rattle.record_match.proofs.same.is_same.Goals as goal
 

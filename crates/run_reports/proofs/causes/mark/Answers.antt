@@ -1,5 +1,5 @@
 use Rattle.std.proofs.Common.{◌≡◌, ◌∙◌, ap, ◌||◌, ℕ, false, nat_eq, slice_index_or, rules}
-use Rattle.frame_view.specs.Reason.{number_of}
+use Rattle.wire.specs.Reason.{number_of}
 use Rattle.run_reports.proofs.Seeking.{one_marked}
 use Rattle.run_reports.proofs.causes.mark.Goals as goal
 

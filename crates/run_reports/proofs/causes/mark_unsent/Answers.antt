@@ -1,6 +1,6 @@
 use Rattle.std.proofs.Common.{◌∙◌, sym, ap, ◌+◌, ◌||◌, Bool, false, slice_index_or, take, Option, arith}
 use Rattle.std.proofs.Math.Bool.{or-false}
-use Rattle.frame_view.specs.declared.reason.Reason.{Reason}
+use Rattle.wire.specs.declared.ether.reason.Reason.{Reason}
 use Rattle.filter_db.specs.declared.place.Place.{Place}
 use Rattle.endpoint_core.specs.Decision.{Sent}
 use Rattle.endpoint_core.specs.Kept.{state_of}

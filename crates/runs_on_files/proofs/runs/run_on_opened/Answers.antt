@@ -5,5 +5,5 @@ pub returns-in-Ok-done_on : goal.returns-in-Ok-done_on
 returns-in-Ok-done_on g c =
     let after = c.run_on_captures.new.captures in
     record {
-      run = where_named c.args.folder (λ h. (after.ports.items, after.underlay, h)) c.in-Ok.ensures.run;
+      run = where_named c.args.job.folder (λ h. (after.ports.items, after.underlay, h)) c.in-Ok.ensures.run;
     }

@@ -1,4 +1,4 @@
-use Rattle.capture_split.specs.Pass.{IsPlaced}
+use Rattle.split_on_files.specs.Pass.{IsPlaced}
 use Rattle.split_on_files.proofs.pass.pass_over.Given as goal
 
 abbrev pub invariant-loop-taken : goal.invariant-loop-taken

@@ -1,7 +1,7 @@
 use Rattle.std.proofs.Common.{◌≡◌, ◌<◌, ◌+◌, ◌-◌, arith, sym, subst, length, Ok, Err, inl}
-use Rattle.pcap_io.specs.Written.{written_header}
-use Rattle.pcap_stream.specs.Sink.{Drain, IsPut}
-use Rattle.pcap_stream.specs.declared.fault.WriteFault.{WriteFault}
+use Rattle.pcap.specs.Written.{written_header}
+use Rattle.pcap.specs.Sink.{Drain, IsPut}
+use Rattle.pcap.specs.declared.stream.fault.WriteFault.{WriteFault}
 use Rattle.stream_run.specs.Stage.{Drains, StandAt}
 use Rattle.stream_run.proofs.Standing.{ports_put}
 use Rattle.stream_run.proofs.begin.begin_port.Goals as goal

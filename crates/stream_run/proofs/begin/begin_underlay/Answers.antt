@@ -1,6 +1,6 @@
 use Rattle.std.proofs.Common.{sym, subst, Ok, Err, inl}
-use Rattle.pcap_io.specs.Written.{written_header}
-use Rattle.pcap_stream.specs.declared.fault.WriteFault.{WriteFault}
+use Rattle.pcap.specs.Written.{written_header}
+use Rattle.pcap.specs.declared.stream.fault.WriteFault.{WriteFault}
 use Rattle.stream_run.specs.Stage.{Drains, StandAt}
 use Rattle.stream_run.proofs.Standing.{sink_put}
 use Rattle.stream_run.proofs.begin.begin_underlay.Goals as goal

@@ -1,5 +1,5 @@
 use Rattle.std.proofs.Common.{◌∙◌, ap, sym, subst, max, option_map, Some, None, IfSome}
-use Rattle.pcap_io.specs.Record.{IsWithinLimits, Record}
+use Rattle.pcap.specs.Record.{IsWithinLimits, Record}
 use Rattle.stream_run.proofs.Fetching.{fetch_done, fetch_failed}
 use Rattle.stream_run.proofs.fetch.fetch.Goals as goal
 

@@ -1,6 +1,6 @@
 use Rattle.std.proofs.Common.{◌≡◌, ◌-◌, ◌<◌, ◌∙◌, ap, sym, subst, refl, arith, length}
 use Rattle.std.proofs.lemmas.List.{get_or_default}
-use Rattle.pcap_stream.specs.Source.{Stream, holds_next}
+use Rattle.pcap.specs.Source.{Stream, holds_next}
 use Rattle.timeline.specs.declared.source.Tap.TheVariants.{Port, Underlay}
 use Rattle.stream_run.specs.Fetched.{IsFetch, IsOpen, fetched}
 use Rattle.stream_run.specs.Steps.{IsAt}

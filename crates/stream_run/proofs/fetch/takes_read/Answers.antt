@@ -1,6 +1,6 @@
 use Rattle.std.proofs.Common.{◌≡◌, ◌∙◌, ◌-◌, ◌<◌, ◌≤◌, ap, subst, refl, not, arith, length, ℕ, List, slice_index_or}
 use Rattle.std.proofs.lemmas.List.{get_or_default}
-use Rattle.pcap_stream.specs.Source.{Stream, holds_next}
+use Rattle.pcap.specs.Source.{Stream, holds_next}
 use Rattle.timeline.specs.declared.source.Tap.{Tap}
 use Rattle.timeline.specs.declared.source.Tap.TheVariants.{Port, Underlay}
 use Rattle.stream_run.specs.Steps.{IsAt, source_at}

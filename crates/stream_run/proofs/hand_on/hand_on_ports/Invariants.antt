@@ -1,5 +1,5 @@
 use Rattle.std.proofs.Common.{◌≡◌, ◌<◌, ℕ, [], length, slice_index_or}
-use Rattle.pcap_stream.specs.Sink.{Drain}
+use Rattle.pcap.specs.Sink.{Drain}
 use Rattle.capture_run.specs.Outputs.{Outputs}
 use Rattle.stream_run.specs.Stage.{Drains, StandAt}
 use Rattle.stream_run.proofs.hand_on.hand_on_ports.Given as goal

@@ -1,5 +1,5 @@
 use Rattle.std.proofs.Common.{ap, subst, sym}
-use Rattle.pcap_stream.specs.declared.fault.WriteFault.{WriteFault}
+use Rattle.pcap.specs.declared.stream.fault.WriteFault.{WriteFault}
 use Rattle.stream_run.specs.Stage.{Drains, StandAt}
 use Rattle.stream_run.proofs.Handing.{underlay_handed, underlay_held}
 use Rattle.stream_run.proofs.Waiting.{handed_out}

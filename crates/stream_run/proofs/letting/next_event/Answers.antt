@@ -1,7 +1,7 @@
 use Rattle.std.proofs.Common.{◌≡◌, ◌∙◌, ◌-◌, ◌<◌, ap, sym, subst, refl, arith, length, inl, inr}
 use Rattle.std.specs.Prelude.{IsSome}
 use Rattle.std.proofs.lemmas.List.{get_or_default}
-use Rattle.pcap_stream.specs.Source.{Stream, lent}
+use Rattle.pcap.specs.Source.{Stream, lent}
 use Rattle.timeline.specs.declared.source.Tap.TheVariants.{Port, Underlay}
 use Rattle.stream_run.specs.Steps.{source_at}
 use Rattle.stream_run.proofs.Readying.{the_record}

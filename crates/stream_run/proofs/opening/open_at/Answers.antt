@@ -1,6 +1,6 @@
 use Rattle.std.proofs.Common.{◌≡◌, ◌-◌, ◌<◌, ◌∙◌, sym, subst, refl, arith, length}
 use Rattle.std.proofs.lemmas.List.{get_or_default}
-use Rattle.pcap_stream.specs.Source.{Stream}
+use Rattle.pcap.specs.Source.{Stream}
 use Rattle.timeline.specs.declared.source.Tap.TheVariants.{Port, Underlay}
 use Rattle.stream_run.specs.Begun.{IsUnread, IsOpening}
 use Rattle.stream_run.proofs.opening.open_at.Goals as goal

@@ -1,8 +1,8 @@
 use Rattle.std.proofs.Common.{◌≡◌, ◌∙◌, ◌<◌, ◌-◌, ◌==◌, ◌++◌, ap, sym, subst, false, arith, length, Ok, Err, inl}
 use Rattle.std.proofs.lemmas.Bool.{ne_eqb}
-use Rattle.pcap_io.specs.Written.{whole_frame, written_record}
-use Rattle.pcap_stream.specs.Sink.{Drain, IsPut}
-use Rattle.pcap_stream.specs.declared.fault.WriteFault.{WriteFault}
+use Rattle.pcap.specs.Written.{whole_frame, written_record}
+use Rattle.pcap.specs.Sink.{Drain, IsPut}
+use Rattle.pcap.specs.declared.stream.fault.WriteFault.{WriteFault}
 use Rattle.stream_run.specs.Stage.{Drains, StandAt}
 use Rattle.stream_run.proofs.Standing.{ports_put}
 use Rattle.stream_run.proofs.put.put_at.Goals as goal

@@ -20,13 +20,13 @@ use Rattle.stream_run.proofs.put.put_forwarded.Goals as goal
 pub returns-in-Err-clause-outputs : goal.returns-in-Err-clause-outputs
 returns-in-Err-clause-outputs g c start o at =
     let f = sent_at (state_of c.args.endpoint.now).bridges.settings c.args.came.now.vid c.args.came.now.frame in
-    let sent = with_all_sent c.args.event.now.moment o (map f c.args.desk.now.places.items) in
+    let sent = with_all_sent c.args.event.now.moment o (map f c.args.scratch.now.places.items) in
     let new = c.put_places.new.outputs in
     let lead = subst (λ (ps : List Place). Lead start new o (with_all_sent c.args.event.now.moment o (map f ps)) c.put_places.result) c.as_slice.ensures.value
     (c.put_places.ensures.sent start o at) in
     let failed = rw c.in-Err.is at lead in (
       wider start new o o sent (with_line sent _) failed.0 (fronts_self o) (front_line sent _)
-          (no_line start new o o sent (with_line sent _) failed.0 refl (lines_stay c.args.event.now.moment o (map f c.args.desk.now.places.items))),
+          (no_line start new o o sent (with_line sent _) failed.0 refl (lines_stay c.args.event.now.moment o (map f c.args.scratch.now.places.items))),
       failed.1,
     )
 
@@ -35,30 +35,30 @@ returns-in-Err-clause-order g c start o at =
     let S = (state_of c.args.endpoint.now).bridges.settings in
     let f = sent_at S c.args.came.now.vid c.args.came.now.frame in
     let new = c.put_places.new.outputs in
-    let answer = Decided (by_verdict S c.args.came.now (Ok c.args.desk.now.places.items)) in
+    let answer = Decided (by_verdict S c.args.came.now (Ok c.args.scratch.now.places.items)) in
     let sends = subst (λ (ps : List Place). SendsInOrder start new c.args.event.now.moment o (map f ps) c.put_places.result) c.as_slice.ensures.value
     (c.put_places.ensures.order start o at) in
     let failed = rw c.in-Err.is at sends in
-    at_outlet c.args.desk.now.number None o c.args.event.now answer start new failed.0 failed.2 failed.1 failed.3 failed.4
+    at_outlet c.args.scratch.now.number None o c.args.event.now answer start new failed.0 failed.2 failed.1 failed.3 failed.4
 
 -- the line behind the emissions
 module _ (g : Over) (c : After-put_line g) where
   abbrev outcomes : List Sent
-  outcomes = map (sent_at (state_of c.args.endpoint.now).bridges.settings c.args.came.now.vid c.args.came.now.frame) c.args.desk.now.places.items
+  outcomes = map (sent_at (state_of c.args.endpoint.now).bridges.settings c.args.came.now.vid c.args.came.now.frame) c.args.scratch.now.places.items
 
   abbrev emitted : Outputs → Outputs
   emitted o = with_all_sent c.args.event.now.moment o outcomes
 
   abbrev text : List ℕ
   text =
-      line_front c.args.desk.now.number c.args.event.now
+      line_front c.args.scratch.now.number c.args.event.now
       ++ ((segment_text (Some c.args.came.now.vid) ++ codes " " ++ outcomes_text (has_two_tunnels (state_of c.args.endpoint.now).bridges.settings.overlay c.args.came.now.vid) outcomes) ++ 10 ∷ [])
 
   text_is : c.text.result.now ≡ text
   text_is =
       let S = (state_of c.args.endpoint.now).bridges.settings in
       let f = sent_at S c.args.came.now.vid c.args.came.now.frame in
-      let front = line_front c.args.desk.now.number c.args.event.now in
+      let front = line_front c.args.scratch.now.number c.args.event.now in
       let seg = segment_text (Some c.args.came.now.vid) in
       let two = has_two_tunnels S.overlay c.args.came.now.vid in
       c.text.ensures.value ∙ c.end.ensures
@@ -80,8 +80,8 @@ module _ (g : Over) (c : After-put_line g) where
 pub returns-clause-order : goal.returns-clause-order
 returns-clause-order g c start o at =
     let w = (goal.at.returns-clause-order g c).After-put_line in
-    let answer = Decided (by_verdict (state_of c.args.endpoint.now).bridges.settings c.args.came.now (Ok c.args.desk.now.places.items)) in
-    put_at_line c.args.desk.now.number None o c.args.event.now answer start _ c.put_line.result (line_put g w start o at)
+    let answer = Decided (by_verdict (state_of c.args.endpoint.now).bridges.settings c.args.came.now (Ok c.args.scratch.now.places.items)) in
+    put_at_line c.args.scratch.now.number None o c.args.event.now answer start _ c.put_line.result (line_put g w start o at)
 
 pub returns-clause-outputs : goal.returns-clause-outputs
 returns-clause-outputs g c start o at =

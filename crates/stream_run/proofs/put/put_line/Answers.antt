@@ -1,5 +1,5 @@
 use Rattle.std.proofs.Common.{◌∙◌, ap, sym, subst, false, ℕ, inr}
-use Rattle.pcap_stream.specs.Sink.{Drain}
+use Rattle.pcap.specs.Sink.{Drain}
 use Rattle.stream_run.specs.Stage.{Drains, StandAt}
 use Rattle.stream_run.proofs.Standing.{fails_on, stands_more, stands_part}
 use Rattle.stream_run.proofs.put.put_line.Goals as goal

@@ -1,6 +1,6 @@
 use Rattle.std.proofs.Common.{◌++◌, [], sym, subst, Ok, Err, inl}
-use Rattle.pcap_io.specs.Written.{whole_frame, written_record}
-use Rattle.pcap_stream.specs.declared.fault.WriteFault.{WriteFault}
+use Rattle.pcap.specs.Written.{whole_frame, written_record}
+use Rattle.pcap.specs.declared.stream.fault.WriteFault.{WriteFault}
 use Rattle.stream_run.specs.Stage.{Drains, StandAt}
 use Rattle.stream_run.proofs.Standing.{sink_put}
 use Rattle.stream_run.proofs.put.put_out.Goals as goal

@@ -1,7 +1,7 @@
 use Rattle.std.proofs.Common.{◌≡◌, ◌∙◌, ◌++◌, [], ap, sym, subst, ℕ, List, Result, Ok, Err}
 use Rattle.std.proofs.lemmas.List.{take-append-drop}
-use Rattle.frame_view.specs.Frame.{Frame}
-use Rattle.frame_view.specs.declared.reason.Reason.{Reason}
+use Rattle.wire.specs.Frame.{Frame}
+use Rattle.wire.specs.declared.ether.reason.Reason.{Reason}
 use Rattle.encapsulate.specs.Emission.{around, text}
 use Rattle.encapsulate.specs.Remote.{text_behind}
 use Rattle.filter_db.specs.declared.place.Place.TheVariants.{Remote}

@@ -15,34 +15,34 @@ no_turn : Turn
 no_turn = record { done = 0; next = None }
 
 pub let_in-requires-clause-lent : goal.let_in-requires-clause-lent
-let_in-requires-clause-lent g c = (next_up c.args.coming.part.now.changes.now (2 ^ 64 - 3) c.args.captures.now.ports.items c.args.captures.now.underlay c.args.turns.now (state_of c.args.taker.now.endpoint) c.args.taker.now.desk.number _ c.args.coming.first no_turn c.requires.ready c.requires.first).lends
+let_in-requires-clause-lent g c = (next_up c.args.coming.part.now.changes.now (2 ^ 64 - 3) c.args.captures.now.ports.items c.args.captures.now.underlay c.args.turns.now (state_of c.args.taker.now.endpoint) c.args.taker.now.scratch.number _ c.args.coming.first no_turn c.requires.ready c.requires.first).lends
 
 pub fetch_at-requires-clause-open : goal.fetch_at-requires-clause-open
-fetch_at-requires-clause-open g c = (next_up c.args.coming.part.now.changes.now (2 ^ 64 - 3) c.args.captures.now.ports.items c.args.captures.now.underlay c.args.turns.now (state_of c.args.taker.now.endpoint) c.args.taker.now.desk.number _ c.args.coming.first no_turn c.requires.ready c.requires.first).open_
+fetch_at-requires-clause-open g c = (next_up c.args.coming.part.now.changes.now (2 ^ 64 - 3) c.args.captures.now.ports.items c.args.captures.now.underlay c.args.turns.now (state_of c.args.taker.now.endpoint) c.args.taker.now.scratch.number _ c.args.coming.first no_turn c.requires.ready c.requires.first).open_
 
 pub returns-in-Err-clause-step : goal.returns-in-Err-clause-step
 returns-in-Err-clause-step g c tap t at =
-    shown_put c.args.coming.part.now.segments.now g.S.Sieve.taken g.S.Sieve.goes g.T.Watch.sees c.args.coming.part.now.changes.now c.args.captures.now.ports.items c.args.captures.now.underlay c.args.turns.now (state_of c.args.taker.now.endpoint) c.args.taker.now.desk.number _ c.args.coming.first _ c.let_in.new.taker.desk.number (state_of c.let_in.new.taker.endpoint) _ c.args.sieve.now c.let_in.new.sieve c.args.watch.now c.let_in.new.watch (2 ^ 64 - 3) c.in-Err.target
+    shown_put c.args.coming.part.now.segments.now g.S.Sieve.taken g.S.Sieve.goes g.T.Watch.sees c.args.coming.part.now.changes.now c.args.captures.now.ports.items c.args.captures.now.underlay c.args.turns.now (state_of c.args.taker.now.endpoint) c.args.taker.now.scratch.number _ c.args.coming.first _ c.let_in.new.taker.scratch.number (state_of c.let_in.new.taker.endpoint) _ c.args.sieve.now c.let_in.new.sieve c.args.watch.now c.let_in.new.watch (2 ^ 64 - 3) c.in-Err.target
     no_turn c.requires.ready c.requires.first (λ t. ap (λ (x : Turn). x.done) (get_or_default c.args.turns.now c.args.coming.first.index _ t c.requires.first.there)) c.in-Err.ensures.sieved
 
 pub returns-in-Err-fetch_at-clause-step : goal.returns-in-Err-fetch_at-clause-step
 returns-in-Err-fetch_at-clause-step g c tap t at =
     let one = λ (t : Turn). ap (λ (x : Turn). x.done) (get_or_default c.args.turns.now c.args.coming.first.index _ t c.requires.first.there) in
-    shown_fault c.args.coming.part.now.segments.now g.S.Sieve.taken g.S.Sieve.goes g.T.Watch.sees c.args.coming.part.now.changes.now c.args.captures.now.ports.items c.args.captures.now.underlay c.args.turns.now (state_of c.args.taker.now.endpoint) c.args.taker.now.desk.number _ c.args.coming.first _ c.let_in.new.taker.desk.number (state_of c.let_in.new.taker.endpoint) _ c.args.sieve.now c.let_in.new.sieve c.args.watch.now c.let_in.new.watch (2 ^ 64 - 3)
+    shown_fault c.args.coming.part.now.segments.now g.S.Sieve.taken g.S.Sieve.goes g.T.Watch.sees c.args.coming.part.now.changes.now c.args.captures.now.ports.items c.args.captures.now.underlay c.args.turns.now (state_of c.args.taker.now.endpoint) c.args.taker.now.scratch.number _ c.args.coming.first _ c.let_in.new.taker.scratch.number (state_of c.let_in.new.taker.endpoint) _ c.args.sieve.now c.let_in.new.sieve c.args.watch.now c.let_in.new.watch (2 ^ 64 - 3)
     c.fetch_at.new.captures.ports.items c.fetch_at.new.captures.underlay (fault_of tap ((slice_index_or c.args.turns.now c.args.coming.first.index t).done + 1 + 1) c.in-Err-fetch_at.fault) no_turn c.requires.ready c.requires.first
     one c.in_default.ensures.sieved
     (fault_from c.args.coming.part.now.changes.now c.args.coming.first.index _ c.args.coming.first.moment c.args.captures.now.ports.items c.args.captures.now.underlay c.fetch_at.new.captures.ports.items c.fetch_at.new.captures.underlay c.fetch_at.new.next c.in-Err-fetch_at.fault tap _ (length c.args.captures.now.ports.items) (sym (ap (λ (d : ℕ). fault_of tap (d + 1 + 1) c.in-Err-fetch_at.fault) (one t))) at refl c.in-Err-fetch_at.ensures.fetched)
 
 pub at-requires : goal.at-requires
 at-requires g c =
-    let up = next_up c.args.coming.part.now.changes.now (2 ^ 64 - 3) c.args.captures.now.ports.items c.args.captures.now.underlay c.args.turns.now (state_of c.args.taker.now.endpoint) c.args.taker.now.desk.number _ c.args.coming.first no_turn c.requires.ready c.requires.first in
+    let up = next_up c.args.coming.part.now.changes.now (2 ^ 64 - 3) c.args.captures.now.ports.items c.args.captures.now.underlay c.args.turns.now (state_of c.args.taker.now.endpoint) c.args.taker.now.scratch.number _ c.args.coming.first no_turn c.requires.ready c.requires.first in
     let done = ap (λ (x : Turn). x.done) (get_or_default c.args.turns.now c.args.coming.first.index no_turn _ c.requires.first.there) in
     (asked c.args.coming.part.now.changes.now c.args.coming.first.index _ c.args.coming.first.moment c.args.captures.now.ports.items c.args.captures.now.underlay c.fetch_at.new.captures.ports.items c.fetch_at.new.captures.underlay _ c.requires.ready.timely up.moment
     (λ zero. subst (λ n. moment_at c.args.coming.part.now.changes.now n ≡ Some c.args.coming.first.moment) done (up.change zero)) c.in_default-fetch_at.ensures.fetched).moment
 
 pub returns-clause-step : goal.returns-clause-step
 returns-clause-step g c =
-    shown_turn c.args.coming.part.now.segments.now g.S.Sieve.taken g.S.Sieve.goes g.T.Watch.sees c.args.coming.part.now.changes.now c.args.captures.now.ports.items c.args.captures.now.underlay c.args.turns.now (state_of c.args.taker.now.endpoint) c.args.taker.now.desk.number _ c.args.coming.first _ c.let_in.new.taker.desk.number (state_of c.let_in.new.taker.endpoint) _ c.args.sieve.now c.let_in.new.sieve c.args.watch.now c.let_in.new.watch (2 ^ 64 - 3)
+    shown_turn c.args.coming.part.now.segments.now g.S.Sieve.taken g.S.Sieve.goes g.T.Watch.sees c.args.coming.part.now.changes.now c.args.captures.now.ports.items c.args.captures.now.underlay c.args.turns.now (state_of c.args.taker.now.endpoint) c.args.taker.now.scratch.number _ c.args.coming.first _ c.let_in.new.taker.scratch.number (state_of c.let_in.new.taker.endpoint) _ c.args.sieve.now c.let_in.new.sieve c.args.watch.now c.let_in.new.watch (2 ^ 64 - 3)
     c.fetch_at.new.captures.ports.items c.fetch_at.new.captures.underlay _ no_turn c.requires.ready c.requires.first
     (λ t. ap (λ (x : Turn). x.done) (get_or_default c.args.turns.now c.args.coming.first.index _ t c.requires.first.there)) c.in_default.ensures.sieved
     (fetched_to c.args.coming.part.now.changes.now c.args.coming.first.index _ c.args.coming.first.moment c.args.captures.now.ports.items c.args.captures.now.underlay c.fetch_at.new.captures.ports.items c.fetch_at.new.captures.underlay c.fetch_at.new.next c.at.result c.at.ensures c.in_default-fetch_at.ensures.fetched)

@@ -1,7 +1,7 @@
 use Rattle.std.proofs.Common.{◌≡◌, ◌∙◌, ◌-◌, ◌<◌, ap, sym, subst, refl, arith, length, inr, ℕ}
 use Rattle.std.specs.Prelude.{IsSome}
 use Rattle.std.proofs.lemmas.List.{get_or_default}
-use Rattle.pcap_stream.specs.Source.{Stream, lent}
+use Rattle.pcap.specs.Source.{Stream, lent}
 use Rattle.timeline.specs.declared.source.Tap.TheVariants.{Port, Underlay}
 use Rattle.endpoint_core.specs.Kept.{state_of}
 use Rattle.stream_run.specs.Steps.{record_event, source_at}
@@ -11,7 +11,7 @@ use Rattle.stream_run.proofs.take.take_at.Goals as goal
 
 pub returns-then-next-eq0-clause-taken : goal.returns-then-next-eq0-clause-taken
 returns-then-next-eq0-clause-taken g c =
-    subst (λ (i : ℕ). IsWatchedTake c.args.part.now.segments.now g.T.Watch.sees c.args.part.now.changes.now c.args.captures.now.ports.items c.args.captures.now.underlay i c.args.next.done c.args.next.moment c.args.taker.now.desk.number (state_of c.args.taker.now.endpoint) (state_of c.take_change_at.new.taker.endpoint)
+    subst (λ (i : ℕ). IsWatchedTake c.args.part.now.segments.now g.T.Watch.sees c.args.part.now.changes.now c.args.captures.now.ports.items c.args.captures.now.underlay i c.args.next.done c.args.next.moment c.args.taker.now.scratch.number (state_of c.args.taker.now.endpoint) (state_of c.take_change_at.new.taker.endpoint)
     c.args.outputs.now
     c.take_change_at.new.outputs c.args.watch.now c.take_change_at.new.watch c.take_change_at.result)
     (sym c.if-next-eq0.true) (c.take_change_at.ensures.taken c.args.captures.now.ports.items c.args.captures.now.underlay)

@@ -1,8 +1,8 @@
 use Rattle.std.proofs.Common.{◌≡◌, true, false, ◌∙◌, ap, sym, subst, refl, inl, ◌+◌, ℕ}
 use Rattle.timeline.specs.declared.event.Event.{Event}
 use Rattle.timeline.specs.declared.event.Happening.TheVariants as happenings
-use Rattle.overlay_settings.specs.declared.change.Change.{Change}
-use Rattle.endpoint_state.specs.Change.{named}
+use Rattle.overlay.specs.declared.settings.change.Change.{Change}
+use Rattle.endpoint_core.specs.Change.{named}
 use Rattle.endpoint_core.specs.Among.{is_told}
 use Rattle.endpoint_core.specs.Event.{change_at}
 use Rattle.segment_set.specs.Segments.{holds}
@@ -31,10 +31,10 @@ returns-then-not-has-clause-taken g c ports underlay =
         e = e;
         next = inl (refl, refl);
         state = c.make_change.ensures ∙ sym (after_not_told c.args.part.now.segments.now s asked away);
-        outputs = λ start o at. puts_nothing c.args.part.now.segments.now s asked c.args.taker.now.desk.number (named_by (changes_of c.args.part.now.changes.now) e.happening) e start _ o away at;
+        outputs = λ start o at. puts_nothing c.args.part.now.segments.now s asked c.args.taker.now.scratch.number (named_by (changes_of c.args.part.now.changes.now) e.happening) e start _ o away at;
         order = λ start o at. tt;
       };
-      seen = seen_untold c.args.part.now.segments.now s asked g.T.Watch.sees c.args.taker.now.desk.number e c.args.watch.now c.pass_over.new.self away
+      seen = seen_untold c.args.part.now.segments.now s asked g.T.Watch.sees c.args.taker.now.scratch.number e c.args.watch.now c.pass_over.new.self away
           (subst (λ (n : ℕ). g.T.Watch.sees c.args.watch.now (untold (due s n e)) c.pass_over.new.self) c.value.ensures c.pass_over.ensures);
     }
 
@@ -53,11 +53,11 @@ returns-clause-taken g c ports underlay =
         e = e;
         next = inl (refl, refl);
         state = c.take_change.ensures.state ∙ ap (λ (x : Change). after s (change_at c.args.next.moment x)) there ∙ sym (after_told c.args.part.now.segments.now s asked here);
-        outputs = λ start o at. puts_told c.args.part.now.segments.now s asked c.args.taker.now.desk.number (named_by (changes_of c.args.part.now.changes.now) e.happening) e start new o c.take_change.result here
-            (subst (λ (x : Change). Lead start new o (with_input c.args.taker.now.desk.number (named x) o e (answer s (change_at c.args.next.moment x))) c.take_change.result) there (c.take_change.ensures.outputs start o at));
-        order = λ start o at. put_at_line c.args.taker.now.desk.number (named_by (changes_of c.args.part.now.changes.now) e.happening) o e (answer s asked) start new c.take_change.result
-            (subst (λ (x : Change). Lead start new o (with_input c.args.taker.now.desk.number (named x) o e (answer s (change_at c.args.next.moment x))) c.take_change.result) there (c.take_change.ensures.outputs start o at));
+        outputs = λ start o at. puts_told c.args.part.now.segments.now s asked c.args.taker.now.scratch.number (named_by (changes_of c.args.part.now.changes.now) e.happening) e start new o c.take_change.result here
+            (subst (λ (x : Change). Lead start new o (with_input c.args.taker.now.scratch.number (named x) o e (answer s (change_at c.args.next.moment x))) c.take_change.result) there (c.take_change.ensures.outputs start o at));
+        order = λ start o at. put_at_line c.args.taker.now.scratch.number (named_by (changes_of c.args.part.now.changes.now) e.happening) o e (answer s asked) start new c.take_change.result
+            (subst (λ (x : Change). Lead start new o (with_input c.args.taker.now.scratch.number (named x) o e (answer s (change_at c.args.next.moment x))) c.take_change.result) there (c.take_change.ensures.outputs start o at));
       };
-      seen = seen_told c.args.part.now.segments.now s asked g.T.Watch.sees c.args.taker.now.desk.number e c.args.watch.now c.take_change.new.watch here
-          (subst (λ (x : Change). g.T.Watch.sees c.args.watch.now (answered (due s c.args.taker.now.desk.number e) (answer s (change_at c.args.next.moment x))) c.take_change.new.watch) there c.take_change.ensures.seen);
+      seen = seen_told c.args.part.now.segments.now s asked g.T.Watch.sees c.args.taker.now.scratch.number e c.args.watch.now c.take_change.new.watch here
+          (subst (λ (x : Change). g.T.Watch.sees c.args.watch.now (answered (due s c.args.taker.now.scratch.number e) (answer s (change_at c.args.next.moment x))) c.take_change.new.watch) there c.take_change.ensures.seen);
     }

@@ -1,7 +1,7 @@
 use Rattle.std.proofs.Common.{◌∙◌, ap, sym, subst, Vec, Global, Ok, Err}
 use Rattle.overlay_config.specs.Settings.{Settings, settings_in}
 use Rattle.overlay_config.specs.Change.{changes_in}
-use Rattle.overlay_settings.specs.declared.change.TimedChange.{TimedChange}
+use Rattle.overlay.specs.declared.settings.change.TimedChange.{TimedChange}
 use Rattle.capture_run.specs.Fault.{of_changes}
 use Rattle.text_calls.specs.Check.{Reads, both}
 use Rattle.text_calls.proofs.Refused.{changes_refused, settings_refused}

@@ -2,7 +2,7 @@ use Rattle.std.proofs.Common.{◌≡◌, map, take}
 use Rattle.std.specs.List.{flat_map}
 use Rattle.endpoint_core.specs.Kept.{state_of}
 use Rattle.endpoint_core.specs.Step.{sent_at}
-use Rattle.traffic_rows.specs.Rows.{counted_all}
+use Rattle.tunnel_traffic.specs.TrafficRows.{counted_all}
 use Rattle.tunnel_traffic.specs.Tunnels.{outcome_rows}
 use Rattle.tunnel_traffic.proofs.tunnels.count_leaving.Given as goal
 

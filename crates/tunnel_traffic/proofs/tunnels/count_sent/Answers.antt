@@ -2,8 +2,8 @@ use Rattle.std.proofs.Common.{◌∙◌, ap}
 use Rattle.endpoint_core.specs.Decision.{Sent}
 use Rattle.endpoint_core.specs.Kept.{state_of}
 use Rattle.endpoint_core.specs.Step.{sent_at}
-use Rattle.traffic_rows.specs.Rows.{counted_all}
-use Rattle.traffic_rows.specs.declared.traffic.Traffic.{Traffic}
+use Rattle.tunnel_traffic.specs.TrafficRows.{counted_all}
+use Rattle.tunnel_traffic.specs.declared.rows.traffic.Traffic.{Traffic}
 use Rattle.tunnel_traffic.specs.Tunnels.{rows_at}
 use Rattle.tunnel_traffic.proofs.Counting.{sized_rows, unsized_rows}
 use Rattle.tunnel_traffic.proofs.tunnels.count_sent.Goals as goal

@@ -1,6 +1,6 @@
 use Rattle.std.proofs.Common.{◌≡◌, ◌∷◌, [], ◌++◌, All, rules, sym, subst}
 use Rattle.std.proofs.lemmas.List.Elements.{All-push}
-use Rattle.pcap_stream.specs.Source.{New, Stream}
+use Rattle.pcap.specs.Source.{New, Stream}
 use Rattle.user_jobs.proofs.devices.open_interfaces.Goals as goal
 
 pub loop-number-preserved : goal.loop-number-preserved

@@ -1,5 +1,5 @@
 use Rattle.std.proofs.Common.{◌≡◌, All, length}
-use Rattle.pcap_stream.specs.Source.{New, Stream}
+use Rattle.pcap.specs.Source.{New, Stream}
 use Rattle.user_jobs.proofs.devices.open_interfaces.Given as goal
 
 abbrev pub invariant-loop-number : goal.invariant-loop-number

@@ -1,5 +1,5 @@
 use Rattle.std.proofs.Common.{◌∙◌, ℕ, ◌+◌, refl, sym, ap, subst, max, rules}
-use Rattle.pcap_io.specs.Record.{Record}
+use Rattle.pcap.specs.Record.{Record}
 use Rattle.capture_compare.specs.Turns.{StopsBehind, Waits}
 use Rattle.capture_compare.proofs.Fetching.{has_all, has_failed, has_more}
 use Rattle.capture_compare.proofs.coming.Coming.fetch.Goals as goal

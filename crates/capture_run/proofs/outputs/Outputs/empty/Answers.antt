@@ -1,6 +1,6 @@
 use Rattle.std.proofs.Common.{◌≡◌, ◌∙◌, ap, refl, arith, ℕ, Vec, Global, map, replicate, [], ◌∷◌, ◌++◌}
 use Rattle.std.proofs.lemmas.List.{map-append, replicate-append-replicate}
-use Rattle.pcap_io.specs.Written.{written_header}
+use Rattle.pcap.specs.Written.{written_header}
 use Rattle.capture_run.proofs.outputs.Outputs.empty.Goals as goal
 
 pub loop-port-preserved : goal.loop-port-preserved

@@ -1,5 +1,5 @@
 use Rattle.std.proofs.Common.{◌≡◌, map, replicate}
-use Rattle.pcap_io.specs.Written.{written_header}
+use Rattle.pcap.specs.Written.{written_header}
 use Rattle.capture_run.proofs.outputs.Outputs.empty.Given as goal
 
 -- each capture so far has a header

@@ -1,5 +1,5 @@
 use Rattle.std.proofs.Common.{◌∙◌, ℕ, ap}
-use Rattle.pcap_io.specs.Record.{Record}
+use Rattle.pcap.specs.Record.{Record}
 use Rattle.capture_survey.specs.Tally.{is_too_long, one_if}
 use Rattle.capture_survey.proofs.Counting.{tally_more}
 use Rattle.capture_survey.proofs.tally.Tally.add.Goals as goal

@@ -1,6 +1,6 @@
 use Rattle.std.proofs.Common.{◌≡◌, ◌∙◌, List, ℕ, drop, ap}
-use Rattle.frame_view.specs.Tag.{without_tags}
-use Rattle.ip_udp_view.specs.Datagram.{behind_tags}
+use Rattle.wire.specs.Tag.{without_tags}
+use Rattle.wire.specs.Datagram.{behind_tags}
 use Rattle.decapsulate.specs.Arrival.{family_named, packet_at}
 use Rattle.decapsulate.proofs.PacketLemmas.{packet_of-parts}
 use Rattle.decapsulate.proofs.packet.Packet.read.Goals as goal

@@ -1,4 +1,4 @@
-use Rattle.frame_view.specs.First.{fault_of}
+use Rattle.wire.specs.First.{fault_of}
 use Rattle.endpoint_core.specs.Step.{Replied}
 use Rattle.decision_objects.proofs.Answered.{answered}
 use Rattle.decision_objects.proofs.objects.Objects.write_reply.Goals as goal

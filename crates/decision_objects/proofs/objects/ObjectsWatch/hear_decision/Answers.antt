@@ -1,4 +1,4 @@
-use Rattle.endpoint_core.specs.Course.{decision_of}
+use Rattle.endpoint_core.specs.Forwarding.{decision_of}
 use Rattle.endpoint_core.specs.Kept.{state_of}
 use Rattle.endpoint_core.specs.Step.{Decided}
 use Rattle.decision_objects.proofs.Answered.{seen_answered}
@@ -7,5 +7,5 @@ use Rattle.decision_objects.proofs.objects.ObjectsWatch.hear_decision.Goals as g
 pub returns : goal.returns
 returns g c before d expects =
     seen_answered before c.args.self.now c.write_decision.new.self d
-    (Decided (decision_of (state_of c.args.endpoint.now).bridges.settings c.args.course.now c.args.places.now)) expects c.write_decision.ensures.changes
+    (Decided (decision_of (state_of c.args.endpoint.now).bridges.settings c.args.forwarding.now c.args.places.now)) expects c.write_decision.ensures.changes
     c.write_decision.ensures.told

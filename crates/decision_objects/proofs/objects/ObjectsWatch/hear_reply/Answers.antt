@@ -1,4 +1,4 @@
-use Rattle.frame_view.specs.First.{fault_of}
+use Rattle.wire.specs.First.{fault_of}
 use Rattle.endpoint_core.specs.Step.{Replied}
 use Rattle.decision_objects.proofs.Answered.{seen_answered}
 use Rattle.decision_objects.proofs.objects.ObjectsWatch.hear_reply.Goals as goal

@@ -1,5 +1,5 @@
 use Rattle.std.proofs.Common.{◌<◌, length, refl, sym, ap, ◌∙◌, arith, deque_capacity}
-use Rattle.echo_window.specs.Echo.{Came, first_met, met_again}
+use Rattle.echo_window.specs.Echo.{Arrival, first_met, met_again}
 use Rattle.echo_window.specs.Laid.{told}
 use Rattle.echo_window.specs.declared.kept.Kept.{Kept}
 use Rattle.echo_window.proofs.Indexing.{kept-met}
@@ -26,7 +26,7 @@ returns-clause-place c =
     let v = came-is c.self.view_is in
     let h : c.args.i < length c.self.inside.frames.items = omega (arith, count-is _ _ _ v) in
     let one = one-is _ _ _ c.args.i c.index_mut-kept.result.now (first_met (told c.args.met.now)) v h c.index_mut-kept.ensures.value in
-    sym (ap (λ (x : Came). x.place) one)
+    sym (ap (λ (x : Arrival). x.place) one)
 
 pub returns-clause-came : goal.returns-clause-came
 returns-clause-came c =

@@ -1,5 +1,5 @@
 use Rattle.std.proofs.Common.{◌≡◌, ℕ, List, ◌+◌, ◌++◌, ◌∷◌, [], min, sym, ap, ◌∙◌, subst, arith, length-append, deque_capacity}
-use Rattle.echo_window.specs.Echo.{Came, first_met}
+use Rattle.echo_window.specs.Echo.{Arrival, first_met}
 use Rattle.echo_window.specs.Laid.{came_of, laid, told}
 use Rattle.echo_window.specs.declared.kept.Kept.{Kept}
 use Rattle.echo_window.proofs.Keeping.{fits-told}
@@ -50,5 +50,5 @@ returns c =
     (ap (λ (ks : List Kept). laid ks c.put.new.self) items
     ∙ ap (λ (row : List ℕ). laid (c.self.inside.frames.items ++ kept ∷ []) row) c.put.ensures
     ∙ laid-put c.self.inside.frames.items c.self.inside.row kept text c.self.invariant.stands.whole c.length_of.ensures
-    ∙ ap (λ (l : List Came). l ++ came_of kept text ∷ []) v
-    ∙ ap (λ (x : Came). c.args.self.now.came ++ x ∷ []) last)
+    ∙ ap (λ (l : List Arrival). l ++ came_of kept text ∷ []) v
+    ∙ ap (λ (x : Arrival). c.args.self.now.came ++ x ∷ []) last)

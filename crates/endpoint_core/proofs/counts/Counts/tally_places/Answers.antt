@@ -1,5 +1,5 @@
 use Rattle.std.proofs.Common.{ap, map, Some}
-use Rattle.endpoint_state.specs.Held.{settings_of}
+use Rattle.endpoint_core.specs.Held.{settings_of}
 use Rattle.endpoint_core.specs.Counts.{Counts, counted_all, marks_all}
 use Rattle.endpoint_core.specs.Step.{sent_at}
 use Rattle.endpoint_core.proofs.CountsLemmas.{counted-next, counted-end}

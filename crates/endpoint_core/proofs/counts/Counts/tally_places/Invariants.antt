@@ -1,5 +1,5 @@
 use Rattle.std.proofs.Common.{◌≡◌, ◌<◌, drop, length, map, Some}
-use Rattle.endpoint_state.specs.Held.{settings_of}
+use Rattle.endpoint_core.specs.Held.{settings_of}
 use Rattle.endpoint_core.specs.Cells.{count_in}
 use Rattle.endpoint_core.specs.Counts.{counted_all, marks_all}
 use Rattle.endpoint_core.specs.Step.{sent_at}

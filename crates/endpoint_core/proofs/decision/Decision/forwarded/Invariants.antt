@@ -1,6 +1,6 @@
 use Rattle.std.proofs.Common.{◌≡◌, take, map, length}
 use Rattle.std.specs.Prelude.{All}
-use Rattle.endpoint_state.specs.Held.{settings_of}
+use Rattle.endpoint_core.specs.Held.{settings_of}
 use Rattle.endpoint_core.specs.Decision.{sent_of, IsShort}
 use Rattle.endpoint_core.specs.Step.{sent_at, outcome_at}
 use Rattle.endpoint_core.proofs.decision.Decision.forwarded.Given as goal

@@ -1,7 +1,7 @@
 use Rattle.std.proofs.Common.{◌≡◌, ◌≤◌, sym, ap, subst}
-use Rattle.frame_view.specs.First.{fault_of}
-use Rattle.endpoint_state.specs.State.{State as Bridges, aged, fault, after_change}
-use Rattle.endpoint_state.specs.Held.{state_at}
+use Rattle.wire.specs.First.{fault_of}
+use Rattle.endpoint_core.specs.State.{State as Bridges, aged, fault, after_change}
+use Rattle.endpoint_core.specs.Held.{state_at}
 use Rattle.endpoint_core.specs.Cells.{count_in}
 use Rattle.endpoint_core.specs.Kept.{Kept}
 use Rattle.endpoint_core.specs.Step.{State, Replied}

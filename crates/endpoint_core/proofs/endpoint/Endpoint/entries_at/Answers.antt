@@ -1,7 +1,7 @@
 use Rattle.std.proofs.Common.{◌≡◌, ◌≤◌, IfOk, sym, subst}
 use Rattle.std.specs.FinMap.{entries}
-use Rattle.endpoint_state.specs.State.{State as Bridges}
-use Rattle.endpoint_state.proofs.LaterLemmas.{held-later}
+use Rattle.endpoint_core.specs.State.{State as Bridges}
+use Rattle.endpoint_core.proofs.LaterLemmas.{held-later}
 use Rattle.endpoint_core.specs.Kept.{Kept}
 use Rattle.endpoint_core.proofs.endpoint.Endpoint.entries_at.Goals as goal
 

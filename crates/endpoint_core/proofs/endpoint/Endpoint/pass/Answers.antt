@@ -1,6 +1,6 @@
 use Rattle.std.proofs.Common.{◌≤◌, sym, ap, subst}
-use Rattle.endpoint_state.specs.State.{State as Bridges}
-use Rattle.endpoint_state.proofs.LaterLemmas.{held-later}
+use Rattle.endpoint_core.specs.State.{State as Bridges}
+use Rattle.endpoint_core.proofs.LaterLemmas.{held-later}
 use Rattle.endpoint_core.specs.Cells.{count_in}
 use Rattle.endpoint_core.specs.Kept.{Kept}
 use Rattle.endpoint_core.specs.Step.{State}

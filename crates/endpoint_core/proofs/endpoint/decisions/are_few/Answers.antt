@@ -1,6 +1,6 @@
 use Rattle.std.proofs.Common.{◌≡◌, ◌≤◌, ◌+◌, ℕ, sym, subst, length, arith, inl, inr}
 use Rattle.std.proofs.lemmas.Bool.{cases_lt}
-use Rattle.underlay.specs.Overlay.{flood_at}
+use Rattle.overlay.specs.Overlay.{flood_at}
 use Rattle.endpoint_core.proofs.endpoint.decisions.are_few.Goals as goal
 
 pub loop-index-init : goal.loop-index-init

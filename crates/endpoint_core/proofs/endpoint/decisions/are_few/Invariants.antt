@@ -1,6 +1,6 @@
 use Rattle.std.proofs.Common.{ℕ, ◌≤◌, ◌+◌, length}
-use Rattle.frame_view.specs.Tag.{IsVid}
-use Rattle.underlay.specs.Overlay.{flood_at}
+use Rattle.wire.specs.Tag.{IsVid}
+use Rattle.overlay.specs.Overlay.{flood_at}
 use Rattle.endpoint_core.proofs.endpoint.decisions.are_few.Given as goal
 
 -- with the VIDs so far it is so

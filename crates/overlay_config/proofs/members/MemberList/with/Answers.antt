@@ -1,5 +1,5 @@
 use Rattle.std.proofs.Common.{◌∙◌, sym, ap, subst, arith}
-use Rattle.overlay_settings.specs.Settings.{is_member}
+use Rattle.overlay.specs.Settings.{is_member}
 use Rattle.overlay_config.specs.Members.{ArePortNumbers}
 use Rattle.overlay_config.proofs.Numbers.{one_more}
 use Rattle.overlay_config.proofs.members.MemberList.with.Goals as goal

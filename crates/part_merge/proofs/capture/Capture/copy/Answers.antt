@@ -1,9 +1,9 @@
 use Rattle.std.proofs.Common.{◌≡◌, ◌∙◌, ◌++◌, refl, sym, ap, subst, false, length, Some, Ok, Err}
-use Rattle.pcap_io.specs.Record.{Record}
-use Rattle.pcap_io.specs.Written.{whole_frame, written_record}
-use Rattle.pcap_stream.specs.Sink.{IsPut}
-use Rattle.pcap_stream.specs.declared.fault.WriteFault.{WriteFault}
-use Rattle.pcap_stream.specs.Source.{MatchRead as MatchSource, Stream, holds_next, lent}
+use Rattle.pcap.specs.Record.{Record}
+use Rattle.pcap.specs.Written.{whole_frame, written_record}
+use Rattle.pcap.specs.Sink.{IsPut}
+use Rattle.pcap.specs.declared.stream.fault.WriteFault.{WriteFault}
+use Rattle.pcap.specs.Source.{MatchRead as MatchSource, Stream, holds_next, lent}
 use Rattle.part_merge.specs.Copied.{IsDeviceStop}
 use Rattle.part_merge.specs.Left.{IsAdded, IsLeft}
 use Rattle.part_merge.proofs.Blaming.{filled_reads, put_writes, stop_writes, unfilled_reads}

@@ -1,5 +1,5 @@
 use Rattle.std.proofs.Common.{◌∙◌, [], sym, ap, subst, Ok, Err}
-use Rattle.pcap_stream.specs.Source.{ends_cut, lent}
+use Rattle.pcap.specs.Source.{ends_cut, lent}
 use Rattle.part_merge.specs.Copied.{IsDeviceStop}
 use Rattle.part_merge.specs.Left.{IsLeft}
 use Rattle.part_merge.proofs.Blaming.{filled_reads, unfilled_reads}

@@ -1,7 +1,7 @@
 use Rattle.std.proofs.Common.{◌≡◌, ◌∙◌, ◌++◌, rules, refl, sym, ap, subst, ℕ, List, Option, IfSome, length}
 use Rattle.std.proofs.KnownBytes.{Keeps-refl}
 use Rattle.std.proofs.lemmas.List.{with_items_is, places}
-use Rattle.pcap_stream.specs.Source.{Stream}
+use Rattle.pcap.specs.Source.{Stream}
 use Rattle.part_lines.specs.Facts.{facts_of}
 use Rattle.part_lines.specs.Parts.{places_in}
 use Rattle.part_merge.specs.Coming.{OpenPart}

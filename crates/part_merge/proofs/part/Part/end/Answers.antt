@@ -1,6 +1,6 @@
 use Rattle.std.proofs.Common.{List, [], refl, rules, subst, sym}
 use Rattle.std.proofs.lemmas.List.{with_items_is, places}
-use Rattle.pcap_stream.specs.Source.{Stream}
+use Rattle.pcap.specs.Source.{Stream}
 use Rattle.part_merge.specs.Coming.{OpenPart}
 use Rattle.part_merge.specs.Left.{AreLeft}
 use Rattle.part_merge.proofs.Blaming.{captures_part}

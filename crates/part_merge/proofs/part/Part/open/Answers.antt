@@ -1,7 +1,7 @@
 use Rattle.part_merge.specs.Coming.{HoldsAll, OpenPart, StandBehind}
 use Rattle.std.proofs.Common.{ℕ, List, Err, ap, refl, subst, sym}
 use Rattle.line_stream.specs.Lines.{Reader}
-use Rattle.pcap_stream.specs.Source.{Stream}
+use Rattle.pcap.specs.Source.{Stream}
 use Rattle.part_merge.specs.Blame.{LinesRead}
 use Rattle.part_merge.specs.Merged.{Piece}
 use Rattle.part_merge.specs.declared.coming.Coming.TheVariants as coming

@@ -1,6 +1,6 @@
 use Rattle.std.proofs.Common.{◌≡◌, ℕ, List, ◌++◌}
 use Rattle.std.specs.Io.KnownBytes.{Consumes}
-use Rattle.pcap_stream.specs.Counts.{GoesOnBy}
+use Rattle.pcap.specs.Counts.{GoesOnBy}
 use Rattle.part_record.specs.Sum.{HasTaken}
 use Rattle.part_record.proofs.digest_input.DigestInput.finish.Given as goal
 

@@ -1,5 +1,5 @@
 use Rattle.std.proofs.Common.{◌≡◌, ◌<◌, length}
-use Rattle.pcap_stream.specs.Supply.{Spends}
+use Rattle.pcap.specs.Supply.{Spends}
 use Rattle.pcapng_input.specs.Adapter.{KeepsTold, told}
 use Rattle.pcapng_input.specs.State.{steps_at}
 use Rattle.pcapng_input.proofs.adapter.Adapter.give.Given as goal

@@ -1,6 +1,6 @@
 use Rattle.std.proofs.Common.{◌≡◌, ◌∙◌, ◌-◌, ap, arith, drop, length, length-drop, take}
 use Rattle.std.proofs.lemmas.List.{take_all}
-use Rattle.pcap_io.specs.Record.{Record}
+use Rattle.pcap.specs.Record.{Record}
 use Rattle.pcapng_input.proofs.Fronts.{behind_packet, front_as, gives_other, gives_packet}
 use Rattle.pcapng_input.specs.Front.{IsFrontPacket}
 use Rattle.pcapng_input.specs.Reading.{Context}

@@ -1,5 +1,5 @@
 use Rattle.std.proofs.Common.{◌∙◌, ap, drop, List, ℕ}
-use Rattle.pcap_stream.proofs.Aheads.{left_between, size_between}
+use Rattle.pcap.proofs.Aheads.{left_between, size_between}
 use Rattle.pcapng_input.specs.Adapter.{Gathered}
 use Rattle.pcapng_input.proofs.gathered.Gathered.forget.Goals as goal
 

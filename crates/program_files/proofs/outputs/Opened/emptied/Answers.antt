@@ -1,7 +1,7 @@
 use Rattle.std.proofs.Common.{◌≡◌, ◌∷◌, [], ◌++◌, List, All, arith, rules, sym, subst, ap, ◌∙◌, append_assoc, length, map}
 use Rattle.std.proofs.lemmas.List.{length_push}
 use Rattle.std.specs.Vec.Iter.{into_iter_items}
-use Rattle.pcap_stream.specs.Sink.{Drain}
+use Rattle.pcap.specs.Sink.{Drain}
 use Rattle.program_files.specs.Held.{IsHeld}
 use Rattle.program_files.proofs.Handing.{one_more_held}
 use Rattle.program_files.proofs.outputs.Opened.emptied.Goals as goal

@@ -1,6 +1,6 @@
 use Rattle.std.proofs.Common.{◌≡◌, ◌++◌, All, length, map}
 use Rattle.std.specs.Vec.Iter.{into_iter_items}
-use Rattle.pcap_stream.specs.Sink.{Drain}
+use Rattle.pcap.specs.Sink.{Drain}
 use Rattle.program_files.specs.Held.{IsHeld}
 use Rattle.program_files.proofs.outputs.Opened.emptied.Given as goal
 

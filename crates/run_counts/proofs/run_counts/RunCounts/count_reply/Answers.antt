@@ -1,8 +1,8 @@
 use Rattle.std.proofs.Common.{◌≡◌, ◌∙◌, ap, sym, subst, refl, [], ◌∷◌, ◌++◌, Some, None}
 use Rattle.std.specs.Prelude.{Result}
 use Rattle.std.specs.String.{string_bytes}
-use Rattle.frame_view.specs.First.{fault_of}
-use Rattle.endpoint_state.specs.declared.fault.ChangeFault.{ChangeFault}
+use Rattle.wire.specs.First.{fault_of}
+use Rattle.endpoint_core.specs.declared.state.fault.ChangeFault.{ChangeFault}
 use Rattle.endpoint_core.specs.Step.{Replied}
 use Rattle.run_counts.specs.Keeping.{Keeping, totals_in}
 use Rattle.run_counts.specs.Totals.{totals_of}

@@ -1,8 +1,8 @@
 use Rattle.std.proofs.Common.{◌≡◌, ◌∙◌, ◌&&◌, ap, sym, true, Bool, Option}
 use Rattle.std.specs.Option.{is_some, unwrap_or}
 use Rattle.std.specs.FinMap.{empty, get}
-use Rattle.vlan_ports.specs.Ports.{members_at}
-use Rattle.vlan_ports.specs.declared.member.Egress.{Egress}
+use Rattle.overlay.specs.Ports.{members_at}
+use Rattle.overlay.specs.declared.ports.member.Egress.{Egress}
 use Rattle.tunnel_learning.specs.Bridge.{config_of, is_up_at}
 use Rattle.tunnel_learning.proofs.BridgeLemmas.{egress-members}
 use Rattle.tunnel_learning.proofs.bridge.Bridge.serves.Goals as goal

@@ -1,6 +1,6 @@
 use Rattle.std.proofs.Common.{rules, arith}
-use Rattle.tunnel_tables.specs.Tables.{IsEndpoint, IsTraffic, endpoint_key}
-use Rattle.tunnel_tables.proofs.Kept.{kept_remotes}
+use Rattle.tunnel_traffic.specs.Tables.{IsEndpoint, IsTraffic, endpoint_key}
+use Rattle.tunnel_traffic.proofs.Kept.{kept_remotes}
 use Rattle.tunnel_traffic.proofs.tables.RemoteRows.add.Goals as goal
 
 pub invariant_of-self : goal.invariant_of-self

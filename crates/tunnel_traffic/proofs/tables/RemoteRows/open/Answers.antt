@@ -1,4 +1,4 @@
-use Rattle.tunnel_tables.proofs.Kept.{none_remotes}
+use Rattle.tunnel_traffic.proofs.Kept.{none_remotes}
 use Rattle.tunnel_traffic.proofs.tables.RemoteRows.open.Goals as goal
 
 pub invariant_of-result : goal.invariant_of-result

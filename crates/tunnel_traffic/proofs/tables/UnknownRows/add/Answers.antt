@@ -1,7 +1,7 @@
 use Rattle.std.proofs.Common.{refl, rules, arith}
-use Rattle.traffic_rows.specs.Traffic.{came_of}
-use Rattle.tunnel_tables.specs.Tables.{ArePackets, IsNetwork}
-use Rattle.tunnel_tables.proofs.Kept.{kept_unknown}
+use Rattle.tunnel_traffic.specs.Traffic.{came_of}
+use Rattle.tunnel_traffic.specs.Tables.{ArePackets, IsNetwork}
+use Rattle.tunnel_traffic.proofs.Kept.{kept_unknown}
 use Rattle.tunnel_traffic.proofs.tables.UnknownRows.add.Goals as goal
 
 pub invariant_of-self : goal.invariant_of-self

@@ -1,4 +1,4 @@
-use Rattle.tunnel_tables.proofs.Kept.{none_unknown}
+use Rattle.tunnel_traffic.proofs.Kept.{none_unknown}
 use Rattle.tunnel_traffic.proofs.tables.UnknownRows.open.Goals as goal
 
 pub invariant_of-result : goal.invariant_of-result

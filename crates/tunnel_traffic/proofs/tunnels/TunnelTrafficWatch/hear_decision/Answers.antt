@@ -1,5 +1,5 @@
 use Rattle.std.proofs.Common.{◌∙◌, ap}
-use Rattle.endpoint_core.specs.Course.{decision_of}
+use Rattle.endpoint_core.specs.Forwarding.{decision_of}
 use Rattle.endpoint_core.specs.Kept.{state_of}
 use Rattle.endpoint_core.specs.Step.{Decided}
 use Rattle.tunnel_traffic.specs.Tunnels.{Tunnels, answer_told}
@@ -7,4 +7,4 @@ use Rattle.tunnel_traffic.proofs.tunnels.TunnelTrafficWatch.hear_decision.Goals 
 
 pub returns : goal.returns
 returns c before d expects =
-    c.count_decision.ensures ∙ ap (λ (t : Tunnels). answer_told t (Decided (decision_of (state_of c.args.endpoint.now).bridges.settings c.args.course.now c.args.places.now))) expects
+    c.count_decision.ensures ∙ ap (λ (t : Tunnels). answer_told t (Decided (decision_of (state_of c.args.endpoint.now).bridges.settings c.args.forwarding.now c.args.places.now))) expects

@@ -1,0 +1,10 @@
+use Rattle.std.proofs.Common.{◌≡◌, ℕ, ◌<◌, None, get_or}
+use Rattle.record_match.specs.Kept.{told}
+use Rattle.capture_compare.specs.Near.{near_by}
+use Rattle.capture_compare.proofs.lonely.near.find_near.Given as goal
+
+-- none before this one is near
+abbrev pub invariant-loop-i : goal.invariant-loop-i
+invariant-loop-i l = record {
+  before : (k : ℕ) → k < l.i → near_by l.reading l.within (told l.sent) (get_or l.held k (told l.sent)) ≡ None;
+}

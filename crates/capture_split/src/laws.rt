@@ -1,8 +1,0 @@
-//! Laws over the definitions.
-ghost use Rattle.capture_split.specs.Pass.{TellsAsAsked};
-
-/// In front of a text, with nothing known yet, each interface is told as it is read where it is asked for, but for the
-/// capture's header.
-pub fn as_asked()
-    ensures { TellsAsAsked }
-{}

@@ -1,4 +1,0 @@
-pub mod Carrying
-pub mod Keys
-pub mod Lengths
-pub mod Port

@@ -1,0 +1,5 @@
+mod Faults
+mod Lines
+mod Splits
+mod Standing
+mod Stepping

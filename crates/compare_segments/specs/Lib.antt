@@ -1,4 +1,0 @@
-pub mod Code
-pub mod Counting
-pub mod Laws
-pub mod Segments

@@ -1,7 +1,0 @@
-//! A law of what is counted.
-ghost use Rattle.compare_segments.specs.Laws.{EachRowCountsItsFacts};
-
-/// Each row has as many as the facts that were told have records of its segment.
-pub fn each_row_counts_its_facts()
-    ensures { EachRowCountsItsFacts }
-{}

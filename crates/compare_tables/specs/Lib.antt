@@ -1,3 +1,0 @@
-pub mod Delays
-pub mod Laws
-pub mod Lengths

@@ -1,2 +1,0 @@
-mod sieve_tests;
-mod window_tests;

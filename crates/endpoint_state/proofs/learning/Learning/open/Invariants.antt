@@ -1,6 +1,0 @@
-use Rattle.std.proofs.Common.{◌≡◌, ℕ, take}
-use Rattle.endpoint_state.specs.Learning.{learns, tells_learning}
-use Rattle.endpoint_state.proofs.learning.Learning.open.Given as goal
-
-abbrev pub invariant-loop-rule : goal.invariant-loop-rule
-invariant-loop-rule l = (vid : ℕ) → learns l.learning vid ≡ tells_learning (take l.rule-index l.rules) vid

@@ -1,6 +1,0 @@
-use Rattle.file_kind.proofs.Peeking.{head_first}
-use Rattle.file_kind.specs.Head.{octets_in}
-use Rattle.file_kind.proofs.front.peek.Goals as goal
-
-pub returns-in-Ok-clause-head : goal.returns-in-Ok-clause-head
-returns-in-Ok-clause-head g c = head_first _ _ (octets_in c.in-Ok.head) c.in-Ok.ensures.taken c.in-Ok.ensures.size c.in-Ok.ensures.end

@@ -1,2 +1,0 @@
--- The words on addresses and tunnel kinds that this crate's clauses cite, which ip_udp_view has.
-pub use Rattle.ip_udp_view.specs.Addr.{address, is_usable, same_addr, same_kind}

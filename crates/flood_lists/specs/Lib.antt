@@ -1,3 +1,0 @@
-pub mod Addr
-pub mod First
-pub mod Flood

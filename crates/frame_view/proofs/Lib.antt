@@ -1,4 +1,0 @@
-pub mod FirstLemmas
-pub mod FrameLemmas
-pub mod RefusalLemmas
-pub mod TagLemmas

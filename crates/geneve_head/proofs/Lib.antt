@@ -1,3 +1,0 @@
-pub mod OptionsLemmas
-pub mod PacketLemmas
-mod WalkLemmas

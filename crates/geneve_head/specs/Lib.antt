@@ -1,4 +1,0 @@
-pub mod Geneve
-pub mod Options
-pub mod Reading
-pub mod Seen

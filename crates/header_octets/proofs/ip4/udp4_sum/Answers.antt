@@ -1,9 +1,0 @@
-use Rattle.std.proofs.Common.{◌+◌, arith, rules}
-use Rattle.header_octets.specs.Sum.{pseudo4}
-use Rattle.header_octets.proofs.SumLemmas.{sent-parts, total-pseudo4}
-use Rattle.header_octets.proofs.ip4.udp4_sum.Goals as goal
-
-pub returns : goal.returns
-returns c =
-    sent-parts pseudo4 c.args.src c.args.dst c.args.first.now c.args.second.now c.args.third.now (c.words.result + c.words-2.result) _
-    (λ d len. total-pseudo4 c.args.src c.args.dst d len (search rules) (search rules)) c.requires.fits (omega arith) c.datagram_sum.ensures

@@ -1,6 +1,0 @@
-pub mod CutLemmas
-pub mod DatagramLemmas
-pub mod IpLemmas
-pub mod PseudoLemmas
-pub mod SumLemmas
-pub mod UdpLemmas

@@ -1,8 +1,0 @@
-use Rattle.ip_udp_view.proofs.DatagramLemmas.{found-datagram, only-datagram}
-use Rattle.ip_udp_view.proofs.laws.datagram_split.Goals as goal
-
-pub returns-clause-found : goal.returns-clause-found
-returns-clause-found c = found-datagram
-
-pub returns-clause-only : goal.returns-clause-only
-returns-clause-only c = only-datagram

@@ -1,3 +1,0 @@
-pub mod SameLines
-pub mod SameTexts
-pub mod Whole

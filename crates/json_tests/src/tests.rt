@@ -1,2 +1,0 @@
-mod forms;
-mod object_tests;

@@ -1,8 +1,0 @@
-use Rattle.std.proofs.Common.{◌≡◌, rules, length}
-use Rattle.layer_values.proofs.TextLemmas.{mac_six}
-use Rattle.layer_values.proofs.lines.Lines.put_mac.Goals as goal
-
-pub returns-clause-text : goal.returns-clause-text
-returns-clause-text c =
-    let long : length c.args.mac ≡ 6 = search rules in
-    rw (mac_six c.args.mac long) (search rules)

@@ -1,7 +1,0 @@
-use Rattle.std.proofs.Common.{rules}
-use Rattle.layer_values.specs.Text.{ip4_text}
-use Rattle.layer_values.proofs.spelling.put_ip4_at.Goals as goal
-
-pub returns : goal.returns
-unfolding ip4_text
-returns c = rw (← c.array_at.ensures, ← c.from_octets-address.ensures) (search rules)

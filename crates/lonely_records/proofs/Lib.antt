@@ -1,2 +1,0 @@
-mod Looking
-mod KeyBack

@@ -1,9 +1,0 @@
-pub mod KeyRead
-pub mod Segment
-pub mod Difference
-pub mod Near
-pub mod Laws
-pub mod Read
-pub mod Looking
-pub mod Words
-pub mod Texts

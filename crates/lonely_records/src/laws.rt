@@ -1,8 +1,0 @@
-//! A law of keys.
-ghost use Rattle.lonely_records.specs.Laws.{KeyIsRead, OthersAreNot};
-
-/// The key of what a tunnel carries is read as just that, and no other key is read as anything.
-pub fn key_is_read()
-    ensures read { KeyIsRead }
-    ensures others { OthersAreNot }
-{}

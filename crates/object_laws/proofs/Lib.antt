@@ -1,9 +1,0 @@
-pub mod Splits
-pub mod Numbers
-pub mod Names
-pub mod Outcomes
-pub mod Forms
-pub mod Cuts
-pub mod Events
-pub mod Outputs
-pub mod Runs

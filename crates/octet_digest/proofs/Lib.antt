@@ -1,5 +1,0 @@
-mod Absorbing
-mod BitLemmas
-mod LaneLemmas
-mod Sums
-mod Words

@@ -1,7 +1,0 @@
-use Rattle.octet_digest.proofs.LaneLemmas.{half_lanes}
-use Rattle.octet_digest.proofs.schedule.halves.Goals as goal
-
-pub returns : goal.returns
-returns c p q e =
-    let fits = rw e at c.fits-x.1 in
-    rw e (half_lanes p q fits.0.fits fits.1.0.fits)

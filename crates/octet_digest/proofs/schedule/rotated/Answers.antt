@@ -1,5 +1,0 @@
-use Rattle.octet_digest.proofs.LaneLemmas.{shifts_rotate}
-use Rattle.octet_digest.proofs.schedule.rotated.Goals as goal
-
-pub returns : goal.returns
-returns c = shifts_rotate c.args.by c.requires.0 c.requires.1 c.args.x c.fits-x.0

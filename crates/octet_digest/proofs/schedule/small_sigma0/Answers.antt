@@ -1,5 +1,0 @@
-use Rattle.octet_digest.proofs.LaneLemmas.{sigma0_lanes}
-use Rattle.octet_digest.proofs.schedule.small_sigma0.Goals as goal
-
-pub returns : goal.returns
-returns c = rw (c.rotated.ensures, c.rotated-2.ensures) (sigma0_lanes c.args.x c.fits-x.0)

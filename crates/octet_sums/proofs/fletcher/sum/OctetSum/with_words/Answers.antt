@@ -1,0 +1,13 @@
+use Rattle.std.proofs.Common.{◌++◌, rules, take}
+use Rattle.octet_sums.proofs.FletcherWords.{sum_longer}
+use Rattle.octet_sums.proofs.fletcher.sum.OctetSum.with_words.Goals as goal
+
+pub loop-at-preserved : goal.loop-at-preserved
+loop-at-preserved c = record {
+  bound = search rules;
+  word = λ more. c.with_word-sum.ensures.word;
+  sum = λ before is.
+      let octets = c.args.octets.now in
+      sum_longer c.with_word-sum.result before octets c.loop-at.at 8
+      (c.with_word-sum.ensures.sum (before ++ take c.loop-at.at octets) (c.loop-at.invariant.sum before is));
+}

@@ -1,0 +1,3 @@
+pub mod Hashers
+pub mod Lanes
+pub mod Sums

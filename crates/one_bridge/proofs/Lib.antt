@@ -1,4 +1,0 @@
-pub mod Ageing
-pub mod Behind
-pub mod Deciding
-pub mod Keeping

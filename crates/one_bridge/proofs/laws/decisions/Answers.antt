@@ -1,6 +1,0 @@
-use Rattle.std.proofs.Common.{refl}
-use Rattle.one_bridge.proofs.Behind.{decision-step, after-step, after-other}
-use Rattle.one_bridge.proofs.laws.decisions.Goals as goal
-
-pub returns : goal.returns
-returns c = record { answer = decision-step; bridge = after-step; others = after-other; begins = λ S vid. refl }

@@ -1,3 +1,0 @@
-pub mod SumLemmas
-pub mod TemplateLemmas
-pub mod FillingLemmas

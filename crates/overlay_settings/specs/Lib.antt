@@ -1,4 +1,0 @@
-pub mod Change
-pub mod Code
-pub mod Rules
-pub mod Settings

@@ -1,0 +1,10 @@
+use Rattle.std.proofs.Common.{◌≡◌, ◌++◌, drop}
+use Rattle.std.specs.Prelude.{codes}
+use Rattle.std.specs.List.{flat_map}
+use Rattle.std.specs.String.{string_bytes}
+use Rattle.packet_layers.specs.Text.{hex_octet, mac_text}
+use Rattle.packet_layers.proofs.words.spelling.put_mac.Given as goal
+
+-- with what is left put too, it is all
+abbrev pub invariant-loop-octet : goal.invariant-loop-octet
+invariant-loop-octet l = string_bytes l.text ++ flat_map (λ p. codes ":" ++ hex_octet p) (drop l.octet-index l.others) ≡ string_bytes l.fn.text ++ mac_text l.mac

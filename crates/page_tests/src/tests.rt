@@ -1,1 +1,0 @@
-mod page_tests;

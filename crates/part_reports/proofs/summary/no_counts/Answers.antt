@@ -1,8 +1,0 @@
-use Rattle.std.proofs.Common.{◌≡◌, ℕ, List, slice_index_or, sym, subst}
-use Rattle.part_reports.proofs.Cells.{zeros}
-use Rattle.part_reports.proofs.summary.no_counts.Goals as goal
-
-pub returns-clause-zeros : goal.returns-clause-zeros
-returns-clause-zeros c =
-    let same = c.in_ok-counts.ensures.items_if_clones_equal (λ n h. h) in
-    subst (λ (counts : List ℕ). (i : ℕ) → slice_index_or counts i 0 ≡ 0) (sym same) (zeros 167895)

@@ -1,8 +1,0 @@
-use Rattle.std.proofs.Common.{◌≡◌, ◌-◌}
-use Rattle.std.specs.List.{flat_map, range_with_len}
-use Rattle.part_reports.specs.Tables.{lines_of}
-use Rattle.part_reports.proofs.tables.tables_of.Given as goal
-
--- the lines of the segments so far
-abbrev pub invariant-loop-vid : goal.invariant-loop-vid
-invariant-loop-vid l = l.text.items ≡ flat_map (lines_of l.rows) (range_with_len 1 (l.vid - 1))

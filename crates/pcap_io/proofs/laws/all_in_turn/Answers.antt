@@ -1,5 +1,0 @@
-use Rattle.pcap_io.proofs.Calls.{takes_all_in_turn}
-use Rattle.pcap_io.proofs.laws.all_in_turn.Goals as goal
-
-pub returns : goal.returns
-returns c = takes_all_in_turn

@@ -1,8 +1,0 @@
-use Rattle.pcap_io.proofs.Opened.{opened-found, opened-is}
-use Rattle.pcap_io.proofs.laws.one_reading.Goals as goal
-
-pub returns-clause-found : goal.returns-clause-found
-returns-clause-found c = opened-found
-
-pub returns-clause-only : goal.returns-clause-only
-returns-clause-only c = opened-is

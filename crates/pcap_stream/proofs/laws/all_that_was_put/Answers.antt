@@ -1,5 +1,0 @@
-use Rattle.pcap_stream.proofs.Runs.{writes_what_was_put}
-use Rattle.pcap_stream.proofs.laws.all_that_was_put.Goals as goal
-
-pub returns : goal.returns
-returns c = writes_what_was_put

@@ -1,8 +1,0 @@
-use Rattle.std.proofs.Common.{[]}
-use Rattle.pcap_stream.proofs.Bounds.{header_answered}
-use Rattle.pcap_stream.proofs.source.Source.open.Goals as goal
-
-pub returns-in-Ok-clause-bound : goal.returns-in-Ok-clause-bound
-returns-in-Ok-clause-bound g c =
-    let read = c.in-Ok.ensures.header [] in
-    header_answered _ read.header _ c.answer_of.result read.standing_is (c.answer_of.ensures [])

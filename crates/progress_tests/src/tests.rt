@@ -1,2 +1,0 @@
-mod line_tests;
-mod screen_tests;

@@ -1,5 +1,0 @@
-mod Lines
-mod Splits
-mod Stepping
-mod Standing
-mod Faults

@@ -1,2 +1,0 @@
-mod count_tests;
-mod line_tests;

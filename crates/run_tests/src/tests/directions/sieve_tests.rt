@@ -1,0 +1,137 @@
+//! Records of captures that hold both directions, in order of moment.
+use both_ways::BothWays;
+use overlay::underlay::Underlay;
+use overlay_config::settings_of;
+use std::alloc::Global;
+use std::test::Fail;
+use test_inputs::settings::ENDPOINT;
+use test_inputs::{octets_of, three_cells};
+use timeline::{Captured, Event, Happening, Tap};
+
+/// How many nanoseconds behind its frame an echo comes at most.
+const WITHIN: u64 = 10;
+
+/// Records: what each is, its place, its moment, its octets, and whether it's input. The endpoint is 192.0.2.1.
+fn rows<'a>() -> &'a str {
+    "\
+a frame comes in | p1 | 100 | 02000000000B02000000000A88B501010101 | in
+the endpoint sends it into a tunnel | u | 103 | \
+02000000AA0102000000AA02080045000036000000004011F6B3C0000201C0000202C00012B5002200000800000000138800\
+02000000000B02000000000A88B501010101 | out
+and out of a port, tagged | p2 | 104 | 02000000000B02000000000A8100000588B501010101 | out
+once more there | p2 | 105 | 02000000000B02000000000A88B501010101 | in
+at a third port as late as may be, with a priority | p3 | 110 | 02000000000B02000000000A8100E00088B501010101 | out
+too late behind both | p4 | 116 | 02000000000B02000000000A88B501010101 | in
+a second tag belongs to the frame | p1 | 117 | 02000000000B02000000000A810000058100000688B501010101 | in
+a frame comes out of a VXLAN tunnel | u | 120 | \
+02000000AA0102000000AA02080045000036000000004011F6B3C0000202C0000201C00012B5002200000800000000138800\
+02000000000B02000000000A88B502020202 | in
+and goes out of a port, tagged | p1 | 121 | 02000000000B02000000000A8100000788B502020202 | out
+the same out of the tunnel again | u | 122 | \
+02000000AA0102000000AA02080045000036000000004011F6B3C0000202C0000201C00012B5002200000800000000138800\
+02000000000B02000000000A88B502020202 | in
+that goes out, too | p1 | 123 | 02000000000B02000000000A88B502020202 | out
+but no third one | p1 | 124 | 02000000000B02000000000A88B502020202 | in
+a tunnel between others | u | 130 | \
+02000000AA0102000000AA02080045000036000000004011F6ABC0000202C0000209C00012B5002200000800000000138800\
+02000000000B02000000000A88B503030303 | in
+whose frame is none of the switch's | p1 | 131 | 02000000000B02000000000A88B503030303 | in
+a ping by the endpoint | u | 132 | 02000000AA0102000000AA0208004500001C000000004001F6D6C0000201C00002090800F7FF00000000 | out
+a frame comes out of a Geneve tunnel | u | 140 | \
+02000000AA0102000000AA02080045000036000000004011F6B3C0000202C0000201C00017C1002200000000655800138800\
+02000000000B02000000000A88B504040404 | in
+and goes out as late as may be | p2 | 150 | 02000000000B02000000000A88B504040404 | out
+and later | p3 | 151 | 02000000000B02000000000A88B504040404 | in
+no packet of IP | u | 160 | 02000000000B02000000000A08060001 | in
+nor this | u | 161 | 02000000000B02000000000A08060001 | in
+a frame that is cut in its tag | p1 | 170 | 02000000000B02000000000A81000005 | in
+is compared as it stands | p2 | 171 | 02000000000B02000000000A81000005 | out
+and one of three octets | p1 | 172 | 010203 | in
+like any other | p2 | 173 | 010203 | out
+"
+}
+
+/// The underlay of an endpoint at 192.0.2.1 with the registered ports.
+fn underlay(alloc: Global) -> Result<Underlay, Fail> {
+    let settings = settings_of(alloc, ENDPOINT.as_bytes())?;
+    Ok(settings.into_parts().underlay)
+}
+
+/// The place of this name.
+fn tap_of(name: &str) -> Result<Tap, Fail> {
+    match name.strip_prefix("p") {
+        Some(port) => Ok(Tap::Port(port.parse::<u8>()?)),
+        None => Ok(Tap::Underlay),
+    }
+}
+
+/// Whether a record at a place, at a moment and of these words, is input.
+fn is_taken(
+    alloc: Global,
+    both: &mut BothWays,
+    place: &str,
+    moment: &str,
+    words: &str,
+) -> Result<bool, Fail> {
+    let octets = octets_of(alloc, words)?;
+    let event = Event {
+        moment: moment.parse::<u64>()?,
+        number: 1,
+        happening: Happening::Record(
+            tap_of(place)?,
+            Captured {
+                original: 60,
+                octets: octets.as_slice(),
+            },
+        ),
+    };
+    Ok(both.is_input(&event))
+}
+
+/// The first row that is taken otherwise than it says.
+fn wrong_row<'a>(
+    alloc: Global,
+    both: &mut BothWays,
+    rows: &'a str,
+) -> Result<Option<&'a str>, Fail> {
+    for row in rows.lines() {
+        let (name, place, rest) = three_cells(row)?;
+        let (moment, words, wanted) = three_cells(rest)?;
+        if is_taken(alloc, both, place, moment, words)? != (wanted == "in") {
+            return Ok(Some(name));
+        }
+    }
+    Ok(None)
+}
+
+/// Whether two packets of the rows were left out at the underlay, and 2, 4, 1 and no frame at the ports.
+fn are_counted(both: &BothWays) -> bool {
+    both.left_out(Tap::Underlay) == 2
+        && both.left_out(Tap::Port(1)) == 2
+        && both.left_out(Tap::Port(2)) == 4
+        && both.left_out(Tap::Port(3)) == 1
+        && both.left_out(Tap::Port(4)) == 0
+}
+
+#[test]
+fn what_the_switch_sent_is_no_input(rt: HostRuntime) -> Result<(), Fail> {
+    let underlay = underlay(rt.alloc())?;
+    let mut both = BothWays::new(rt.alloc(), WITHIN, &underlay)?;
+    let wrong = wrong_row(rt.alloc(), &mut both, rows())?.unwrap_or("none");
+    assert_eq!(rt; wrong, "none");
+    assert!(rt; are_counted(&both));
+    Ok(())
+}
+
+#[test]
+fn a_change_is_always_input(rt: HostRuntime) -> Result<(), Fail> {
+    let underlay = underlay(rt.alloc())?;
+    let mut both = BothWays::new(rt.alloc(), WITHIN, &underlay)?;
+    let event = Event {
+        moment: 5,
+        number: 1,
+        happening: Happening::Change(0),
+    };
+    assert!(rt; both.is_input(&event) && both.is_input(&event));
+    Ok(())
+}

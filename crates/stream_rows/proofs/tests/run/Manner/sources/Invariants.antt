@@ -1,9 +1,0 @@
-use Rattle.std.proofs.Common.{◌≡◌, All, length}
-use Rattle.pcap_stream.specs.Source.{New, Stream}
-use Rattle.stream_rows.proofs.tests.run.Manner.sources.Given as goal
-
-abbrev pub invariant-loop-index : goal.invariant-loop-index
-invariant-loop-index l = record {
-  count : length l.sources.items ≡ l.index;
-  fresh : All (λ (source : Stream). source.standing ≡ New) l.sources.items;
-}

@@ -1,4 +1,0 @@
-pub mod Talk
-pub mod Passed
-pub mod Order
-pub mod Sums

@@ -1,4 +1,0 @@
-pub mod Sums
-pub mod Shown
-pub mod Places
-pub mod Merging

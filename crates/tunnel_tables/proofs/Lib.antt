@@ -1,4 +1,0 @@
-pub mod Addresses
-pub mod Filling
-pub mod Kept
-pub mod Reading

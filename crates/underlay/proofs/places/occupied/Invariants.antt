@@ -1,7 +1,0 @@
-use Rattle.std.proofs.Common.{◌≡◌, ◌≤◌, take}
-use Rattle.underlay.specs.Seats.{occupied}
-use Rattle.underlay.proofs.places.occupied.Given as goal
-
--- the places so far that have a segment
-abbrev pub invariant-loop-row : goal.invariant-loop-row
-invariant-loop-row l = record { so_far : l.count ≡ occupied (take l.row-index l.rows); few : l.count ≤ l.row-index }

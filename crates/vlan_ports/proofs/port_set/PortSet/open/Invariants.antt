@@ -1,6 +1,0 @@
-use Rattle.std.proofs.Common.{◌≡◌, take}
-use Rattle.vlan_ports.specs.Ports.{told}
-use Rattle.vlan_ports.proofs.port_set.PortSet.open.Given as goal
-
-abbrev pub invariant-loop-rule : goal.invariant-loop-rule
-invariant-loop-rule l = l.set ≡ told l.ports (take l.rule-index l.members)

@@ -1,9 +1,0 @@
-use Rattle.std.proofs.Common.{◌≡◌, drop}
-use Rattle.vlan_ports.specs.Ports.{with_each}
-use Rattle.vlan_ports.specs.Rules.{members_or_none, with_members}
-use Rattle.vlan_ports.proofs.port_set.PortSet.put.Given as goal
-
-abbrev pub invariant-loop-port : goal.invariant-loop-port
-invariant-loop-port l =
-    (l.self ≡ with_members l.fn.self l.vid (members_or_none l.self l.vid))
-    × (with_each (drop l.port-index l.ports) l.egress (members_or_none l.self l.vid) ≡ with_each l.ports l.egress (members_or_none l.fn.self l.vid))

@@ -1,6 +1,0 @@
--- The words on frames, tags and refusals that this crate's clauses cite, which frame_view has.
-pub use Rattle.frame_view.specs.Address.{is_group, is_reserved}
-pub use Rattle.frame_view.specs.Ether.{has_tag}
-pub use Rattle.frame_view.specs.First.{first}
-pub use Rattle.frame_view.specs.Frame.{Frame, IsFrame, plain, tagged, frame_of, frame_behind_tag}
-pub use Rattle.frame_view.specs.Tag.{begins_tag, vid_of}

@@ -1,2 +1,0 @@
--- The words on texts of octets, which header_octets has.
-pub use Rattle.header_octets.specs.Octets.{IsText, octet, field, number, octets, part, begins, is_same}

@@ -1,0 +1,20 @@
+pub mod CutLemmas
+pub mod DatagramLemmas
+pub mod FillingLemmas
+pub mod FirstLemmas
+pub mod FoldLemmas
+pub mod FrameLemmas
+pub mod IpLemmas
+pub mod IpSumLemmas
+pub mod OctetsLemmas
+pub mod OptionsLemmas
+pub mod OuterSumLemmas
+pub mod PacketLemmas
+pub mod PseudoLemmas
+pub mod RefusalLemmas
+pub mod SumLemmas
+pub mod TagLemmas
+pub mod TemplateLemmas
+pub mod UdpLemmas
+pub mod VxlanReading
+mod WalkLemmas

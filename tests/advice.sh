@@ -1,5 +1,0 @@
-#!/usr/bin/env bash
-# The keys and ranges that are told of a refused text are those of docs/FORMATS.md, none more and none less.
-set -u
-cd "$(dirname "$0")/.." || exit 1
-exec python3 tests/advice.py

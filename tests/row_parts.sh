@@ -1,9 +1,0 @@
-#!/usr/bin/env bash
-# Worked rows, each run cut into each pair of parts and put together again.
-set -u
-cd "$(dirname "$0")/.." || exit 1
-./tep >/dev/null || {
-    echo "tests/row_parts.sh: there is no program"
-    exit 1
-}
-exec python3 -B tests/row_parts.py

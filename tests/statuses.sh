@@ -1,9 +1,0 @@
-#!/usr/bin/env bash
-# Command lines, each with its status and the files that it writes.
-set -u
-cd "$(dirname "$0")/.." || exit 1
-./tep >/dev/null || {
-    echo "tests/statuses.sh: there is no program"
-    exit 1
-}
-exec python3 -B tests/statuses.py

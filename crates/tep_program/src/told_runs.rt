@@ -200,8 +200,7 @@ fn finished<'a, F: Write + Drop>(run: Result<Ran<F>, Failure<'a>>) -> Result<Ran
     }
 }
 
-/// The same where something is asked for: someone looks on, whatever it is, so that runs which nobody looks on at have their
-/// steps for themselves.
+/// The same where something is asked for: someone looks on, so that runs which nobody looks on at have steps for themselves.
 fn run_watched<
     'r,
     't,

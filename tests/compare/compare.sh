@@ -24,6 +24,32 @@ $printed"
 }
 
 python3 tests/compare/compare.py ./tep "$folder" "${1:-2000}" || complain "a made pair of captures is told otherwise"
+# Two frames that were cut to the same octets, one that was cut alike on both sides, and one that is whole on one side.
+PYTHONPATH=tests/compare python3 -Bc '
+import sys
+from compare import write
+head = bytes(60)
+write(f"{sys.argv[1]}/cut_sent.pcap", [(1, (head, 100)), (2, (head, 300)), (3, (head, 400))])
+write(f"{sys.argv[1]}/cut_received.pcap", [(1, (head, 200)), (2, (head, 300)), (3, head)], "cut")' "$folder"
+wants 1 "1 received alone length 60 record 1
+3 received alone length 60 record 3
+1 sent alone length 60 record 1
+3 sent alone length 60 record 3
+sent 3
+received 3
+both 1
+sent alone 2
+received alone 2
+cut: sent 3, received 2
+length 60: both 1, sent alone 2, received alone 2
+received: cut
+what was received isn't what was sent" --list --by length "$folder/cut_sent.pcap" "$folder/cut_received.pcap"
+wants 0 "sent 3
+received 3
+both 3
+sent alone 0
+received alone 0
+cut: sent 3, received 3" "$folder/cut_sent.pcap" "$folder/cut_sent.pcap"
 
 capture=examples/underlay.pcap
 same=$(./tep compare "$capture" "$capture")

@@ -40,8 +40,8 @@ def compared(tep, folder, delays, lost, shift, words):
     sent = [(start + 1000 * number, number.to_bytes(60, "big")) for number in range(len(delays) + lost)]
     received = [(moment + delay + shift, octets) for (moment, octets), delay in zip(sent, delays)]
     received.sort(key=lambda record: record[0])
-    write(f"{folder}/delays_sent.pcap", sent, False)
-    write(f"{folder}/delays_received.pcap", received, False)
+    write(f"{folder}/delays_sent.pcap", sent)
+    write(f"{folder}/delays_received.pcap", received)
     done = subprocess.run(
         [tep, "compare", "--by", "delay", *words, f"{folder}/delays_sent.pcap", f"{folder}/delays_received.pcap"],
         capture_output=True,

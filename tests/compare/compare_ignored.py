@@ -5,29 +5,37 @@ compare_ignored.py TEP FOLDER COUNT; prints what differs, and exits 1 where some
 import random
 import sys
 
-from compare import in_parts, made, report, rising, told, up_to_fault, write
+from compare import end_lines, in_parts, made, parts_of, report, rising, told, up_to_fault, write
 
 RESERVED = bytes.fromhex("0180c20000")
 
 
-def is_reserved(octets):
+def is_reserved(content):
     """Whether a frame goes to 01-80-C2-00-00-00 to 01-80-C2-00-00-0F."""
+    octets, _ = parts_of(content)
     return len(octets) >= 14 and octets[:5] == RESERVED and octets[5] < 16
+
+
+def sent_to(address, content):
+    """The same record to another address."""
+    octets, original = parts_of(content)
+    readdressed = (address + octets[6:])[: len(octets)]
+    return readdressed if isinstance(content, bytes) else (readdressed, original)
 
 
 def readdressed(chance, sent, received):
     """The records, where of some frames all go to an address at or near those that no bridge forwards."""
     to = {}
-    for _, octets in sent + received:
-        if octets not in to:
+    for _, content in sent + received:
+        if content not in to:
             near = RESERVED + bytes([chance.choice([0, 2, 14, 15, 16, 255])])
-            to[octets] = near if chance.random() < 0.4 else octets[:6]
-    return ([(moment, (to[octets] + octets[6:])[: len(octets)]) for moment, octets in side] for side in (sent, received))
+            to[content] = near if chance.random() < 0.4 else parts_of(content)[0][:6]
+    return ([(moment, sent_to(to[content], content)) for moment, content in side] for side in (sent, received))
 
 
 def sifted(records):
     """The other records, each at the greatest moment up to it of all."""
-    return [(moment, octets) for moment, octets in rising(records) if not is_reserved(octets)]
+    return [(moment, content) for moment, content in rising(records) if not is_reserved(content)]
 
 
 def main():
@@ -35,11 +43,11 @@ def main():
     wrong = 0
     for seed in range(count):
         chance = random.Random(f"ignored {seed}")
-        sent, received, within, shift, faulty = made(chance)
+        sent, received, within, shift, ends = made(chance)
         sent, received = readdressed(chance, sent, received)
-        write(f"{folder}/sent.pcap", sent, faulty[0])
-        write(f"{folder}/received.pcap", received, faulty[1])
-        sent, received, fault = up_to_fault(sent, received, within, shift, faulty)
+        write(f"{folder}/sent.pcap", sent, ends[0])
+        write(f"{folder}/received.pcap", received, ends[1])
+        sent, received, fault = up_to_fault(sent, received, within, shift, ends)
         compared = sifted(sent), sifted(received)
         wanted = report(*compared, within, shift)
         aside = [f"sent left aside {len(sent) - len(compared[0])}", f"received left aside {len(received) - len(compared[1])}"]
@@ -47,8 +55,9 @@ def main():
         printed, status, told_of = told(tep, folder, within, shift, "--list", "--by", "length", "--ignore", "reserved")
         plain = told(tep, folder, within, shift, "--ignore", "reserved")[0].splitlines()
         found = in_parts(printed), plain, status, told_of
-        lists = (*wanted[:3], aside + wanted[3])
-        if found != (lists, wanted[2] + aside, 1 if said else 0, f"{said}\n" if said else ""):
+        are_cut = end_lines(ends, fault)
+        lists = (*wanted[:3], aside + wanted[3] + are_cut)
+        if found != (lists, wanted[2] + aside + are_cut, 1 if said else 0, f"{said}\n" if said else ""):
             wrong += 1
             print(f"seed {seed}: status {status}, printed\n{printed}{told_of}wanted\n{lists}{said}")
             if wrong == 3:

@@ -10,7 +10,7 @@ import struct
 import subprocess
 import sys
 
-from compare import SECOND, matched, rising, up_to_fault, write
+from compare import SECOND, cut_line, cut_to, drawn_end, drawn_snaps, end_lines, matched, parts_of, rising, up_to_fault, write
 from made_segments import GENEVE, VXLAN, drawn_settings, frame_segment, number, packet_segment, segment_lines, settings_text
 
 DIFFERS = "what was received isn't what was sent"
@@ -104,8 +104,9 @@ def has_wrong_sum(source, destination, udp):
 
 
 def carried(octets):
-    """What of a record at the underlay is compared: what it carries in which tunnel between whom, or else all its octets."""
-    found = datagram_in(octets)
+    """What of a record at the underlay is compared: what it carries in which tunnel between whom, or else all its octets; of one that
+    is cut these and its original length."""
+    found = datagram_in(octets) if isinstance(octets, bytes) else None
     if found is None:
         return octets
     source, destination, udp = found
@@ -260,12 +261,17 @@ def place_of(chance, is_underlay, within, shift):
             seen.append((max(0, moment + delay + (shift or 0)), left))
     if chance.random() < 0.8:
         seen.sort(key=lambda record: record[0])
-    return worked, seen
+    return [[(moment, cut_to(snap, octets)) for moment, octets in side] for snap, side in zip(drawn_snaps(chance), (worked, seen))]
 
 
-def place_told(word, worked, seen, key, clock, faulty, segment_of=None, counts=None):
-    """The line of a place, its counts, and its fault. Each record is counted with its segment, too, where that is asked for."""
-    worked, seen, fault = up_to_fault(worked, seen, *clock, faulty)
+def as_it_stands(content):
+    """What is compared of a record at a port."""
+    return content
+
+
+def place_told(word, worked, seen, key, clock, ends, segment_of=None, counts=None):
+    """The lines of a place, its counts, and its fault. Each record is counted with its segment, too, where that is asked for."""
+    worked, seen, fault = up_to_fault(worked, seen, *clock, ends)
     keyed = [[(moment, key(octets)) for moment, octets in rising(records)] for records in (worked, seen)]
     are_both = matched(*keyed, *clock)[0]
     for side, records in enumerate((worked, seen) if segment_of else ()):
@@ -275,7 +281,8 @@ def place_told(word, worked, seen, key, clock, faulty, segment_of=None, counts=N
             row[2] += side == 0 and at in are_both
     one, other, both = len(worked), len(seen), len(are_both)
     line = f"{word}: sent {one}, received {other}, both {both}, sent alone {one - both}, received alone {other - both}\n"
-    return line, (one, other, both), fault
+    cut = [f"{word}: {line}\n" for line in cut_line(worked, seen) + end_lines(ends, fault)]
+    return line + "".join(cut), (one, other, both), fault
 
 
 class Case:
@@ -295,15 +302,15 @@ class Case:
         self.words = [f"p{port}" for port in range(1, ports + 1)] + ["u"]
         self.files = [f"port{port}.pcap" for port in range(1, ports + 1)] + ["underlay.pcap"]
         self.places = [place_of(chance, word == "u", *self.clock) for word in self.words]
-        self.faulty = [[chance.random() < 0.04, chance.random() < 0.04] for _ in self.words]
+        self.ends = [[drawn_end(chance, 0.08), drawn_end(chance, 0.08)] for _ in self.words]
         self.is_named = [chance.random() < 0.9 for _ in self.words[1:]] + [True]
         self.segments, self.pvids = drawn_settings(chance, ports)
         self.settings = os.path.join(folder, "made.toml")
         with open(self.settings, "w") as out:
             out.write(settings_text(self.segments, self.pvids))
-        for (worked, seen), faulty, name in zip(self.places, self.faulty, self.files):
-            write(os.path.join(self.folder, name), worked, faulty[0])
-            write(os.path.join(self.folder, f"seen_{name}"), seen, faulty[1])
+        for (worked, seen), ends, name in zip(self.places, self.ends, self.files):
+            write(os.path.join(self.folder, name), worked, ends[0])
+            write(os.path.join(self.folder, f"seen_{name}"), seen, ends[1])
 
     def seen(self, index):
         return os.path.join(self.folder, f"seen_{self.files[index]}") if self.is_named[index] else "-"
@@ -321,7 +328,7 @@ class Case:
         if self.words[index] == "u":
             return lambda octets: packet_segment(carried(octets), self.segments)
         pvid = self.pvids[index] if index < len(self.pvids) else None
-        return lambda octets: frame_segment(octets, self.segments, pvid)
+        return lambda content: frame_segment(parts_of(content)[0], self.segments, pvid)
 
     def worked_told(self, with_settings):
         """What is printed, what is said of it, and the status, of what was worked out beside what was captured."""
@@ -330,9 +337,9 @@ class Case:
             if not self.is_named[index]:
                 text += f"{word}: no capture\n"
                 continue
-            key = carried if word == "u" else bytes
+            key = carried if word == "u" else as_it_stands
             segment_of = self.segment_at(index) if with_settings else None
-            line, told, fault = place_told(word, *self.places[index], key, self.clock, self.faulty[index], segment_of, counts)
+            line, told, fault = place_told(word, *self.places[index], key, self.clock, self.ends[index], segment_of, counts)
             text += line
             sums = [one + other for one, other in zip(sums, told)]
             if fault:
@@ -347,8 +354,9 @@ class Case:
 
     def plain_told(self):
         """The same of the underlay's two captures alone, octet for octet."""
-        _, (one, other, both), fault = place_told("u", *self.places[-1], bytes, self.clock, self.faulty[-1])
+        told, (one, other, both), fault = place_told("u", *self.places[-1], as_it_stands, self.clock, self.ends[-1])
         text = f"sent {one}\nreceived {other}\nboth {both}\nsent alone {one - both}\nreceived alone {other - both}\n"
+        text += "".join(line.removeprefix("u: ") for line in told.splitlines(keepends=True)[1:])
         said = fault or (None if one == other == both else DIFFERS)
         return (text, f"{said}\n", 1) if said else (text, "", 0)
 

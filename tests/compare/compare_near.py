@@ -43,12 +43,12 @@ def write(path, records):
     """A classic capture of nanoseconds."""
     with open(path, "wb") as out:
         out.write(struct.pack("<IHHIIII", 0xA1B23C4D, 2, 4, 0, 0, 262144, 1))
-        for moment, octets in records:
-            out.write(struct.pack("<IIII", moment // 10**9, moment % 10**9, len(octets), len(octets)) + octets)
+        for moment, octets, *original in records:
+            out.write(struct.pack("<IIII", moment // 10**9, moment % 10**9, len(octets), *(original or [len(octets)])) + octets)
 
 
 # What a run worked out, the decision line's places, what was captured, and what the lines of the place tell, by hand. Moments are
-# in nanoseconds, and a record may be captured 100 later.
+# in nanoseconds, and a record may be captured 100 later. A record that is cut has its original length behind its octets.
 PORT = [
     ("a tag more", [(10, at_port())], [(12, at_port(tag(20)))],
      ["10 p1 sent alone length 64 record 1 untagged event 1 tag 20 for none", "12 p1 received alone length 68 record 1 vlan 20"]),
@@ -79,6 +79,18 @@ PORT = [
     ("too late", [(10, at_port())], [(111, at_port()[:60])],
      ["10 p1 sent alone length 64 record 1 untagged event 1", "111 p1 received alone length 60 record 1 untagged"]),
     ("a runt", [(10, MACS)], [], ["10 p1 sent alone length 12 record 1 untagged event 1"]),
+    ("another VID, cut alike", [(10, at_port(tag(20)), 72)], [(12, at_port(tag(21)), 72)],
+     ["10 p1 sent alone length 68 record 1 vlan 20 event 1 tag 21 for 20", "12 p1 received alone length 68 record 1 vlan 21"]),
+    ("another VID, cut otherwise", [(10, at_port(tag(20)), 72)], [(12, at_port(tag(21)), 73)],
+     ["10 p1 sent alone length 68 record 1 vlan 20 event 1", "12 p1 received alone length 68 record 1 vlan 21"]),
+    ("another VID, one cut", [(10, at_port(tag(20)))], [(12, at_port(tag(21)), 69)],
+     ["10 p1 sent alone length 68 record 1 vlan 20 event 1", "12 p1 received alone length 68 record 1 vlan 21"]),
+    ("a front, one cut", [(10, at_port())], [(12, at_port()[:60], 64)],
+     ["10 p1 sent alone length 64 record 1 untagged event 1", "12 p1 received alone length 60 record 1 untagged"]),
+    ("a front, cut alike", [(10, at_port(), 68)], [(12, at_port()[:60], 64)],
+     ["10 p1 sent alone length 64 record 1 untagged event 1", "12 p1 received alone length 60 record 1 untagged"]),
+    ("cut to the same octets", [(10, at_port(), 68)], [(12, at_port(), 69)],
+     ["10 p1 sent alone length 64 record 1 untagged event 1", "12 p1 received alone length 64 record 1 untagged"]),
 ]
 # The key of a packet over IPv4 is 15 octets more than its inner frame, and of another packet one more than its own.
 UNDERLAY = [
@@ -93,6 +105,8 @@ UNDERLAY = [
      ["10 u sent alone length 67 record 1 vxlan 5000 event 1", "12 u received alone length 67 record 1 vxlan 5001"]),
     ("another VNI and inner frame", [(10, vxlan(5000))], [(12, vxlan(5001, BODY[:-1] + b"x"))],
      ["10 u sent alone length 67 record 1 vxlan 5000 event 1", "12 u received alone length 67 record 1 vxlan 5001"]),
+    ("another VNI, cut", [(10, vxlan(5000), 106)], [(12, vxlan(5001), 106)],
+     ["10 u sent alone length 103 record 1 no tunnel event 1", "12 u received alone length 103 record 1 no tunnel"]),
     ("no tunnel", [(10, vxlan(5000))], [(12, at_port())],
      ["10 u sent alone length 67 record 1 vxlan 5000 event 1", "12 u received alone length 65 record 1 no tunnel"]),
 ]

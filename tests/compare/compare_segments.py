@@ -6,7 +6,7 @@ import os
 import subprocess
 import sys
 
-from compare_worked import OPTION, frame, geneve, ip4, ip6, line, udp, vxlan, write
+from compare_worked import OPTION, cut, frame, geneve, ip4, ip6, line, udp, vxlan, write
 
 SETTINGS = """version = 3
 [underlay]
@@ -84,6 +84,8 @@ ROWS = [
         [[UNTAGGED], [tagged(20)], [GN20, VX20]],
         [("segment 10", 2, 1, 1), ("segment 20", 4, 3, 3), ("no segment", 1, 0, 0)],
     ),
+    ("a frame that is cut", [[cut(tagged(20), 4)], [], []], [[cut(tagged(20), 4)], [], []], [("segment 20", 1, 1, 1)]),
+    ("a packet that is cut", [[], [], [cut(VX10, 4)]], [[], [], [VX10]], [("segment 10", 0, 1, 0), ("no segment", 1, 0, 0)]),
     ("nothing", [[], [], []], [[], [], []], []),
 ]
 
@@ -102,6 +104,8 @@ def wanted(sent, seen, segments):
         else:
             counts = counts_of(worked, captured)
             text += line(word, *counts)
+            are_cut = [len([content for content in side if isinstance(content, tuple)]) for side in (worked, captured)]
+            text += f"{word}: cut: sent {are_cut[0]}, received {are_cut[1]}\n" if any(are_cut) else ""
             sums = tuple(one + other for one, other in zip(sums, counts))
     text += "".join(line(*row) for row in segments) + line("all", *sums)
     return (text, 0) if sums[0] == sums[1] == sums[2] else (text + DIFFERS, 1)

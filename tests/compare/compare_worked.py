@@ -107,12 +107,19 @@ FOR_GN = [
 ]
 
 
-def write(path, records, moment=MOMENT):
-    """A classic capture of nanoseconds: its records at one moment, in seconds."""
+def cut(octets, missing):
+    """A record of which so many octets more weren't captured."""
+    return octets, len(octets) + missing
+
+
+def write(path, records, moment=MOMENT, rest=b""):
+    """A classic capture of nanoseconds: its records at one moment, in seconds, and behind them a rest."""
     with open(path, "wb") as out:
         out.write(struct.pack("<IHHiIII", 0xA1B23C4D, 2, 4, 0, 0, 262144, 1))
-        for octets in records:
-            out.write(struct.pack("<IIII", moment, 0, len(octets), len(octets)) + octets)
+        for content in records:
+            octets, original = content if isinstance(content, tuple) else (content, len(content))
+            out.write(struct.pack("<IIII", moment, 0, len(octets), original) + octets)
+        out.write(rest)
     return path
 
 
@@ -174,6 +181,32 @@ def main():
     write(underlay, [critical])
     underlay_is("a critical option", [critical], (1, 1, 1))
     underlay_is("a critical option and another TTL", [frame(ip4(udp(6081, geneve(10, CRITICAL, INNER, flags=0x40)), ttl=3))], (1, 1, 0))
+    write(underlay, UNDERLAY)
+
+    # Of records that are cut what there is is compared, and how long they were. None is a packet of a tunnel.
+    def cuts_are(what, sent, received, counts, are_cut, ends=(False, False), words=()):
+        write(underlay, sent, rest=bytes(15 * ends[0]))
+        write(seen, received, rest=bytes(15 * ends[1]))
+        told_of = [f"u: cut: sent {are_cut[0]}, received {are_cut[1]}\n"] if any(are_cut) else []
+        told_of += [f"u: {side}: cut\n" for side, is_cut in zip(("sent", "received"), ends) if is_cut]
+        text = told((2, 2, 2), (1, 1, 1), counts)
+        at = text.index("all: ")
+        same = counts[0] == counts[1] == counts[2]
+        text = text[:at] + "".join(told_of) + text[at:] + ("" if same else differs)
+        wants(what, 0 if same else 1, text, *words, "--worked", worked, "-u", seen, *ports)
+
+    cuts_are("two frames, cut alike", [cut(ARP, 4)], [cut(ARP, 8)], (1, 1, 0), (1, 1))
+    cuts_are("one frame, cut alike", [cut(ARP, 4)], [cut(ARP, 4)], (1, 1, 1), (1, 1))
+    cuts_are("one frame, cut alike and not", [cut(ARP, 4)] * 2, [cut(ARP, 4), ARP], (2, 2, 1), (2, 1))
+    cuts_are("what was sent, cut", [cut(ARP, 4)], [ARP], (1, 1, 0), (1, 0))
+    cuts_are("what was received, cut", [ARP, VX], [cut(ARP, 4), VX], (2, 2, 1), (0, 1))
+    cuts_are("a packet whose trailer is cut", [VX], [cut(VX, 4)], (1, 1, 0), (0, 1))
+    cuts_are("two packets whose trailer is cut", [cut(VX, 4)], [cut(VX, 4)], (1, 1, 1), (1, 1))
+    cuts_are("the same with another TTL", [cut(VX, 4)], [cut(FOR_VX[0][1], 4)], (1, 1, 0), (1, 1))
+    cuts_are("two frames, cut alike, strictly", [cut(ARP, 4)], [cut(ARP, 8)], (1, 1, 0), (1, 1), words=("--strict",))
+    cuts_are("a record that tells fewer octets than it has", [(ARP, 4)], [ARP], (1, 1, 1), (0, 0))
+    cuts_are("captures that end within a record", [VX, ARP], [VX, ARP], (2, 2, 2), (0, 0), (True, True))
+    cuts_are("a capture that ends within a record", [VX, cut(ARP, 1)], [VX], (2, 1, 1), (1, 0), (False, True))
     write(underlay, UNDERLAY)
 
     # At a port all octets count, also of what looks like a tunnel's packet.

@@ -43,8 +43,9 @@ def frame_segment(octets, segments, pvid):
 
 
 def packet_segment(told, segments):
-    """The same of a packet of the underlay, by what is compared of it."""
-    if isinstance(told, bytes):
+    """The same of a packet of the underlay, by what is compared of it: octets, of one that is cut with its original length, or what it
+    carries."""
+    if isinstance(told, bytes) or len(told) == 2:
         return None
     kind, vni = told[0], told[3]
     return next((vid for vid, tunnels in segments.items() if tunnels.get(kind) == vni), None)

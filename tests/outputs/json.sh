@@ -84,6 +84,14 @@ told compared compare --by delay examples/port1.pcap examples/port1.pcap
 told compared compare --worked "$folder/plain" -s examples/a.toml --list --by length -u "$folder/plain/underlay.pcap" \
     examples/port1.pcap "$folder/plain/port2.pcap" -
 told compared compare --worked "$folder/plain" --by delay -u "$folder/plain/underlay.pcap" "$folder"/plain/port?.pcap
+PYTHONPATH=tests/compare python3 -Bc 'import sys; from compare import write; write(sys.argv[1], [(5, (bytes(60), 100))], "cut")' \
+    "$folder/cut.pcap"
+told compared compare "$folder/cut.pcap" "$folder/cut.pcap"
+[ "$(tail -n 3 "$folder/objects")" = '{"line":"cut","received":1,"sent":1}
+{"line":"ends cut","side":"sent"}
+{"line":"ends cut","side":"received"}' ] || complain "cut captures are told as '$(tail -n 3 "$folder/objects")'"
+told compared compare --worked "$folder/plain" -u - "$folder/cut.pcap" - -
+grep -qx '{"line":"ends cut","place":"p1","side":"received"}' "$folder/objects" || complain "a cut capture isn't told with its place"
 
 # Names with quotes, backslashes and line feeds stay texts.
 cp "$folder/wrong.toml" "$folder/a\"b\\c

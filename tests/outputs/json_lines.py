@@ -114,6 +114,10 @@ def comparison(told):
         return f"{whose}: {counts}, sent alone {told['sent_alone']}, received alone {told['received_alone']}"
     if kind == "no capture":
         return f"{at}no capture"
+    if kind == "cut":
+        return f"{at}cut: sent {told['sent']}, received {told['received']}"
+    if kind == "ends cut":
+        return f"{at}{told['side']}: cut"
     if kind == "length":
         counts = f"both {told['both']}, sent alone {told['sent_alone']}, received alone {told['received_alone']}"
         return f"{at}length {told['length']}: {counts}"

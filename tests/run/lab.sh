@@ -100,6 +100,26 @@ status 0"
 for case in come_in offloads other_vni port_8472; do
     [ "$(echoes "$case" underlay.pcap port1.pcap port2.pcap)" = "status 0" ] || complain "a check of $case"
 done
+# More frames come in within that time than are known: for the last of 4,097 the first one goes, which is 4,096 us old.
+PYTHONPATH=tests/lib python3 -B - "$folder/many" <<'MANY' || complain "no captures of many frames"
+import pathlib
+import sys
+
+import runs
+
+folder = pathlib.Path(sys.argv[1])
+folder.mkdir()
+captures = runs.Captures()
+for number in range(4097):
+    for port, behind in (1, 0), (2, 500):
+        captures.put(f"{10**9 + 1000 * number + behind} p{port} 60 ALL M1 88B5 {number:04X}")
+for tap, text in captures.of.items():
+    (folder / f"{tap}.pcap").write_bytes(text)
+(folder / "settings.toml").write_text(runs.BRIDGE, encoding="utf-8")
+MANY
+[ "$(./tep check -s "$folder/many/settings.toml" -u "$folder/many/u.pcap" "$folder"/many/p?.pcap | tail -n 2)" = \
+"p2: 4097 of 4097 records came in elsewhere within 10 ms before: $question
+both: 1 frame was forgotten before 10ms had passed: --within 4ms would fit" ] || complain "a check of many frames"
 # Nor where a capture isn't named, or can be read only once.
 [ "$(./tep check --settings "$lab/settings.toml" "$captures/both/port1.pcap" "$captures/both/port2.pcap" |
     grep -c elsewhere)" = 0 ] || complain "a check without the underlay"

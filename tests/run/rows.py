@@ -11,6 +11,7 @@ A row is a name behind `==`, and a run told line by line; a line that begins wit
 - `c KEYS` is a change, with commas between its keys;
 - `MOMENT TAP LENGTH OCTETS` is a record that comes, `= TAP OCTETS` a whole capture, and `+ TAP OCTETS` more of one;
 - `> LINE` is what the run says: the next decision line, or the line of its fault;
+- `! LINE` is what standard error says of a run that is done;
 - `|LINE` is a line of the story of the change or the record above it; behind a line `run WORDS`, `explain WORDS` or `check` it
   is what the program prints for these words. Where there is such a line, other decision lines need not be told;
 - `< MOMENT TAP LENGTH OCTETS` is a record that leaves. Where there is such a line, nothing else leaves.
@@ -34,7 +35,7 @@ class Row:
         self.name = name
         self.settings, self.changes, self.is_migrated = "", "", False
         self.comes, self.leaves, self.tells_octets = None, None, False
-        self.says, self.prints, self.words = [], [], ["run"]
+        self.says, self.notes, self.prints, self.words = [], [], [], ["run"]
         # The events whose stories are told; none behind a command line.
         self.why = []
         # The events so far of each tap and of changes, and the last one of them.
@@ -55,6 +56,8 @@ class Row:
             self.count("c")
         elif word == ">":
             self.says.append(rest)
+        elif word == "!":
+            self.notes.append(f"  {rest}")
         elif word == "<":
             self.tells_octets = True
             self.leaves.put(rest)
@@ -91,7 +94,7 @@ class Row:
         run = runs.Run(settings, self.changes, self.comes, words)
         if run.stdout.splitlines() != self.prints:
             yield f"it prints:\n{run.stdout}"
-        if run.status not in (0, 1) or (run.status == 0) != (run.stderr == ""):
+        if run.status not in (0, 1) or (run.stderr.splitlines() != self.notes if run.status == 0 else run.stderr == ""):
             yield f"status {run.status}: {run.stderr}"
         elif (self.says or not self.prints) and run.said().splitlines() != self.says:
             yield f"it says:\n{run.said()}"
@@ -149,15 +152,32 @@ def beyond_4000():
     return row
 
 
+def beyond_4096():
+    """4,097 frames in as many microseconds: the first one leaves 100 us behind the last, when it is forgotten, and is input."""
+    row = Row("4097 frames, of which 4096 are known")
+    row.put("L")
+    row.put("run --both")
+    for number in range(4097):
+        row.put(f"{10**9 + 1000 * number} p1 60 ALL M1 88B5 {number:04X}")
+        row.put(f"> {number + 1} {10**9 + 1000 * number} p1 {number + 1} 10 p2=60 p3=60")
+    for port, number in (2, 4096), (2, 1), (3, 0):
+        row.put(f"{10**9 + 4196000} p{port} 60 ALL M1 88B5 {number:04X}")
+    row.put("> 4098 1004196000 p3 1 10 p1=60 p2=60")
+    row.put("! p2: left out 2 records that the switch sent")
+    # For the last frame the first one goes, at 4,096 us, and for that which is input the second one, at 4,195 us.
+    row.put("! both: 2 frames were forgotten before 10ms had passed: --within 4ms would fit")
+    return row
+
+
 def main():
     count = wrong = 0
-    for row in [*rows(), *long_floods(), beyond_256(), beyond_4000()]:
+    for row in [*rows(), *long_floods(), beyond_256(), beyond_4000(), beyond_4096()]:
         count += 1
         for fault in row.faults():
             print(f"tests/run/rows.py: {row.name}: {fault}")
             wrong += 1
     # Each row that there is has run: an empty folder would pass.
-    if count < 262:
+    if count < 268:
         print(f"tests/run/rows.py: {count} rows")
         wrong += 1
     return 1 if wrong else 0

@@ -35,7 +35,7 @@ ends() {
 # told FILE TEXT: the last call printed this there, where each time is 0:00
 told() {
     local said
-    said=$(sed -E 's/[0-9]+:[0-9][0-9]$/0:00/' "$folder/$1")
+    said=$(sed -E 's/[0-9]+:[0-9][0-9]($|\. )/0:00\1/' "$folder/$1")
     [ "$said" = "$2" ] || complain "$1 is '$said' in place of '$2'"
 }
 
@@ -70,6 +70,7 @@ case $1 in
         echo "four lines"
         echo "chatter" >&2
         ;;
+    lib) echo "logic=proved functions=1" ;;
     all)
         for name in wire octet_sums; do
             sleep "${SLOW:-0}"
@@ -108,8 +109,8 @@ tep: The log is $log. An interrupt loses nothing: the next ./tep goes on from th
 [1/$of] wire 0:00
 [2/$of] octet_sums 0:00
 tep: all is proved; now it is built
-tep: proved and built in 0:00"
-called "try in tep" "all check --jobs N in tep" "run in tep"
+tep: proved and built in 0:00. Only who changes a crate needs crates/*/out/incremental, nothing here"
+called "try in tep" "lib --jobs N in wire" "all check --jobs N in tep" "run in tep"
 grep -q '^fn some: proved$' "$log" || complain "the log lacks what the check said"
 
 # From then on it starts at once, until a source that it stands on changes.
@@ -127,7 +128,7 @@ for source in crates.txt crates/tep/src/main.rt crates/wire/specs crates/endpoin
     touch "$clone/$source"
     ends 0 four
     told stdout "words: four"
-    called "all check --jobs N in tep" "run in tep"
+    called "lib --jobs N in wire" "all check --jobs N in tep" "run in tep"
 done
 ends 0
 called
@@ -145,11 +146,11 @@ $(seq 23 40)
 logic=not-proved
 == summary
 tep: it couldn't be proved and built; the whole log is $log"
-called "all check --jobs N in tep"
-[ "$(grep -c . "$log")" -eq 51 ] || complain "the log isn't whole: $(cat "$log")"
+called "lib --jobs N in wire" "all check --jobs N in tep"
+[ "$(grep -c . "$log")" -eq 52 ] || complain "the log isn't whole: $(cat "$log")"
 rm "$CALLS.fails"
 ends 0
-called "all check --jobs N in tep" "run in tep"
+called "lib --jobs N in wire" "all check --jobs N in tep" "run in tep"
 
 # An interrupt is told, and the next start goes on; on a terminal one line is written over.
 touch "$clone/crates/tep/src/main.rt"
@@ -157,7 +158,7 @@ SLOW=10 setsid -w timeout -s INT 3 "$tep" six >"$folder/stdout" 2>"$folder/stder
 grep -q '^tep: interrupted; what is proved stays$' "$folder/stderr" || complain "an interrupt isn't told: $(cat "$folder/stderr")"
 told stdout ""
 SLOW=2 script -qec "$tep seven" /dev/null >"$folder/terminal" </dev/null
-for line in "\[0/$of\] reading the sources 0:0" "\[1/$of\] wire 0:0" "\[2/$of\] octet_sums 0:0"; do
+for line in "\[0/$of\] beginning 0:0" "\[1/$of\] wire 0:0" "\[2/$of\] octet_sums 0:0"; do
     tr '\r' '\n' <"$folder/terminal" | grep -q "$line" || complain "a terminal isn't told '$line': $(cat -v "$folder/terminal")"
 done
 tail -n 1 "$folder/terminal" | grep -q '^words: seven' || complain "the program's own line isn't the last"

@@ -1,2 +1,5 @@
 mod Counts
+mod Forgetting
+mod Others
+pub mod Runts
 mod Turns

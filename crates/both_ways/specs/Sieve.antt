@@ -6,8 +6,8 @@
 use Rattle.std.specs.Prelude.{◌≡◌, refl, ℕ, ◌+◌, ◌-◌, ◌^◌, min, Bool, true, false, is_none}
 use Rattle.std.specs.Prelude.{if◌then◌else◌, List, [], ◌∷◌, replicate, set, slice_index}
 use Rattle.std.specs.FinMap.{empty}
-use Rattle.echo_window.specs.Echo.{Record, Window, after, echo_of}
-use Rattle.both_ways.specs.Told.{Told, Sent, Frame, Bare, place_of, told_of}
+use Rattle.echo_window.specs.Echo.{Record, Window, behind_entered, behind_met, echo_of, new_window}
+use Rattle.both_ways.specs.Told.{Told, Sent, Frame, Came, Bare, place_of, told_of}
 use Rattle.timeline.specs.declared.event.Event.{Event}
 use Rattle.timeline.specs.declared.event.Happening.{Happening}
 use Rattle.timeline.specs.declared.event.Happening.TheVariants as happenings
@@ -25,7 +25,7 @@ pub record Seen : Type 0 where
 abbrev pub fresh : ℕ → Underlay → Seen
 fresh within U = record {
   underlay = record U { hops = empty };
-  window = record { within = within; came = [] };
+  window = new_window within;
   counts = replicate 256 0;
 }
 
@@ -33,16 +33,18 @@ fresh within U = record {
 abbrev pub met : ℕ → ℕ → List ℕ → Record
 met place moment text = record { place = place; moment = moment; frame = text }
 
--- what a record tells is input: it is no packet of the endpoint's own, and no echo of a frame that came in
+-- what a record tells is input: all that others sent to the underlay, and at a port what is no echo of a frame that came in
 abbrev pub is_input : Window → ℕ → ℕ → Told → Bool
 is_input w place moment Sent = false
 is_input w place moment (Frame text) = is_none (echo_of w.within w.came (met place moment text))
+is_input w place moment (Came text) = true
 is_input w place moment Bare = true
 
 -- the frames that came in, behind it
 abbrev pub window_behind : Window → ℕ → ℕ → Told → Window
 window_behind w place moment Sent = w
-window_behind w place moment (Frame text) = record { within = w.within; came = after w.within w.came (met place moment text) }
+window_behind w place moment (Frame text) = behind_met w (met place moment text)
+window_behind w place moment (Came text) = behind_entered w (met place moment text)
 window_behind w place moment Bare = w
 
 -- one more at a place

@@ -1,5 +1,5 @@
 //! Laws of the definitions, as contracts of functions that do nothing.
-ghost use Rattle.both_ways.specs.Laws.{CountsWhatIsLeftOut, TakesInTurn};
+ghost use Rattle.both_ways.specs.Laws.{CountsWhatIsForgotten, CountsWhatIsLeftOut, TakesInTurn, TakesWhatOthersSent};
 
 /// What is input of two rows of events, one behind the other, is what is of the first, and then what is of the second by all
 /// that is known behind the first.
@@ -10,4 +10,16 @@ pub fn takes_in_turn()
 /// Behind the events of a run, the count of a place is the number of its records that aren't input, up to 2^64 - 1.
 pub fn counts_what_is_left_out()
     ensures { CountsWhatIsLeftOut }
+{}
+
+/// Of every row of events, those records of the underlay are input whose outer source is no own address of the endpoint, all of
+/// them and no others.
+pub fn takes_what_others_sent()
+    ensures { TakesWhatOthersSent }
+{}
+
+/// Behind the events of a run is told how many frames went for want of room although an echo of them might still have come, up
+/// to 2^64 - 1, and the least of the ages at which they went.
+pub fn counts_what_is_forgotten()
+    ensures { CountsWhatIsForgotten }
 {}

@@ -1,39 +1,52 @@
 //! Which events of a run are input, where the captures hold both directions: what came in at each place, and what the switch
 //! itself sent there.
 //!
-//! Use first: [`BothWays`], a sieve of `stream_run`'s runs, is shown one event after another, of all places in order of moment,
-//! and says of each whether it is input; what isn't, it counts by places. It takes its memory when it is made. [`sieve_of`] makes
-//! one of a settings text.
+//! Use first: [`BothWays`], a sieve of `stream_run`'s runs, is shown one event after another, of all places in order of
+//! moment, and says of each whether it is input; what isn't, it counts by places. [`BothWays::forgotten`] tells what it
+//! had no room for. It takes its memory when it is made. [`sieve_of`] makes one of a settings text.
 //!
-//! Specs to read, in order: `specs/Told`, `specs/Sieve`, `specs/Laws`, and `echo_window`'s `specs/Echo`.
+//! Specs to read, in order: `specs/Told`, `specs/Sieve`, `specs/Laws`, `specs/Line`, and `echo_window`'s `specs/Echo`.
 //!
-//! Proved: of every row of events, those are input that the definition takes, one by one: each change; at a port each frame
-//! that is no echo of one that came in elsewhere, but for one VLAN tag; at the underlay each packet that hasn't the
-//! endpoint's own address as its source and whose frame, where it carries one to the endpoint, is no such echo. Rows behind
-//! one another are taken as one ([`laws::takes_in_turn`]), and behind a run each count tells how many records of its place
-//! were left out ([`laws::counts_what_is_left_out`]), up to the greatest number of 64 bits.
+//! Proved: of every row of events, those are input that the definition takes, one by one: each change; at a port each
+//! frame that is no echo of one that came in elsewhere, but for one VLAN tag; at the underlay each packet that hasn't an
+//! own address of the endpoint as its outer source, wherever that can be read, and no other
+//! ([`laws::takes_what_others_sent`]). Rows behind one another are taken as one ([`laws::takes_in_turn`]). Behind a run
+//! each count tells how many records of its place were left out ([`laws::counts_what_is_left_out`]), and another how many
+//! frames were forgotten although an echo of them might still have come, with the least age of one of them
+//! ([`laws::counts_what_is_forgotten`]), up to the greatest number of 64 bits.
 //!
 //! Proved besides:
-//! - Which events of a run are input, each in turn, where captures hold both directions: no echo of a frame that came
-//!   in elsewhere, whatever its VLAN tag or its tunnel, and no packet from the endpoint's own address:
-//!   `BothWays::is_input`.
+//! - Which events of a run are input, each in turn, where captures hold both directions: at a port no echo of a frame
+//!   that came in elsewhere, whatever its VLAN tag or its tunnel, and at the underlay no packet from an own address:
+//!   `BothWays::is_input`, `laws::takes_what_others_sent`.
 //! - So a run is given it as its sieve, and its outputs are those of these events: `Sieve for BothWays`.
 //! - How many records of each place aren't input, up to 2^64 - 1: `BothWays::left_out`,
 //!   `laws::counts_what_is_left_out`.
+//! - How many frames went for want of room too early, and the least age of one, and the line that tells it with a time
+//!   below that age: `BothWays::forgotten`, `laws::counts_what_is_forgotten`, `ForgottenLine`.
 //!
-//! Why it is so: captures tell no directions, so a record is taken for what the switch sent where a frame came in elsewhere
-//! that explains it, and once for each place. A frame is compared without its tag, since each port has its own way to tag.
-//! What a packet carries is read as the endpoint reads it, up to the segment, which changes may bring later: a packet that
-//! the endpoint refuses before brings no frame, and is input, so that a run tells its reason. A record that is cut is
-//! compared as it stands: of a frame and its echo, cut at different lengths, the echo is input, which a run refuses as
-//! Sliced. A frame that comes in at two places at the same time, as a loop brings it, is input once: captures of one
-//! direction tell that better.
+//! Why it is so: captures tell no directions, but a packet tells its sender. So at the underlay its outer source decides,
+//! and is read first and alone: what is cut, damaged, or carries whatever it does was sent by who stands there. A frame
+//! that a packet of another brings came in, also where the same came in elsewhere a moment ago, as in a loop: it isn't
+//! asked for, and what leaves of it at ports are its echoes. At a port a record is taken for what the switch sent where a
+//! frame came in elsewhere that explains it, and once for each place. A frame is compared without its tag, since each
+//! port has its own way to tag. What a packet carries is read as the endpoint reads it, up to the segment, which changes
+//! may bring later: a packet that the endpoint refuses before brings no frame, and is input, so that a run tells its
+//! reason. A record that is cut is compared as it stands: of a frame and its echo, cut at different lengths, the echo is
+//! input, which a run refuses as Sliced. A frame that comes in at two ports at the same time, as a loop brings it, is
+//! input once: captures of one direction tell that better. How many frames come within the time no bound foresees: where
+//! they are more than fit, that is told, and what time would fit.
 #![tactic(auto)]
 
 mod asked;
 pub mod laws;
+mod line;
+mod nobody;
+mod sender;
 mod sieve;
 mod told;
 
 pub use asked::{WITHIN, sieve_of};
+pub use line::ForgottenLine;
+pub use nobody::Nobody;
 pub use sieve::BothWays;

@@ -1,13 +1,16 @@
 //! The sieve.
 ghost use Rattle.std.specs.Prelude.{◌≡◌, ◌∷◌, ◌++◌, List, IfOk, if◌then◌else◌, is_none, refl, slice_index};
 ghost use Rattle.std.specs.FinMap.{empty};
-ghost use Rattle.echo_window.specs.Echo.{after, echo_of};
+ghost use Rattle.echo_window.specs.Echo.{behind_entered, behind_met, echo_of};
+ghost use Rattle.echo_window.specs.Laid.{told as record_told};
 ghost use Rattle.timeline.specs.declared.event.Event.{Event as AnEvent};
+ghost use Rattle.both_ways.specs.Line.{line_of};
 ghost use Rattle.both_ways.specs.Sieve.{behind, counted, fresh, is_input, is_taken, met, record_behind, taken, window_behind};
 ghost use Rattle.both_ways.specs.Told.{place_of, seen, told_of};
 
+use crate::line::ForgottenLine;
 use crate::told::{FrameText, Told, place_of, told_of};
-use echo_window::{Record, Window};
+use echo_window::{Forgotten, Record, Window};
 use overlay::underlay::{Hops, Underlay};
 use std::alloc::{AllocError, Global};
 use std::marker::Model;
@@ -74,6 +77,28 @@ impl BothWays {
         self.left_out[usize::from(place_of(tap))]
     }
 
+    /// What it forgot of the frames that came in for want of room, although an echo of it might still have come. With a time
+    /// below the least age each of these would have been too early for one.
+    pub fn forgotten(&self) -> Forgotten
+        ensures { result ≡ self.now.window.forgotten }
+    {
+        self.window.forgotten()
+    }
+
+    /// The line that tells of it, where it forgot any.
+    pub fn forgotten_line(&self) -> Option<ForgottenLine>
+        ensures { result ≡ line_of self.now.window }
+    {
+        let forgotten = self.window.forgotten();
+        if forgotten.count == 0 {
+            return None;
+        }
+        Some(ForgottenLine {
+            within: self.window.within(),
+            forgotten,
+        })
+    }
+
     /// The same of a record at a place.
     fn takes_record(&mut self, tap: Tap, moment: u64, octets: &[u8]) -> bool
         ensures answer { result ≡ is_input self.old.window (place_of tap) moment (told_of self.old.underlay tap octets.now) }
@@ -110,6 +135,10 @@ fn meet(window: &mut Window, place: u8, moment: u64, told: Told) -> bool
     match told {
         Told::Sent => false,
         Told::Frame(frame) => is_met_first(window, place, moment, frame),
+        Told::Came(frame) => {
+            enter(window, place, moment, frame);
+            true
+        }
         Told::Bare => true,
     }
 }
@@ -118,18 +147,31 @@ fn meet(window: &mut Window, place: u8, moment: u64, told: Told) -> bool
 fn is_met_first(window: &mut Window, place: u8, moment: u64, frame: FrameText) -> bool
     ensures answer { result ≡ is_none (echo_of window.old.within window.old.came
         (met place moment (frame.entry.front.now ++ frame.entry.rest.now))) }
-    ensures behind { window.new ≡ record {
-      within = window.old.within;
-      came = after window.old.within window.old.came (met place moment (frame.entry.front.now ++ frame.entry.rest.now));
-    } }
+    ensures behind { window.new ≡ behind_met window.old (met place moment (frame.entry.front.now ++ frame.entry.rest.now)) }
 {
-    let record = Record {
+    let record = record_of(place, moment, frame);
+    window.meet(&record).is_none()
+}
+
+/// Shows a window a frame that came in at a place.
+fn enter(window: &mut Window, place: u8, moment: u64, frame: FrameText)
+    ensures { window.new ≡ behind_entered window.old (met place moment (frame.entry.front.now ++ frame.entry.rest.now)) }
+{
+    let record = record_of(place, moment, frame);
+    window.enter(&record);
+}
+
+/// A frame at a place, as a window is told of it.
+#[inline(always)]
+fn record_of(place: u8, moment: u64, frame: FrameText<'_>) -> Record<'_>
+    ensures { record_told result ≡ met place moment (frame.entry.front.now ++ frame.entry.rest.now) }
+{
+    Record {
         place,
         moment,
         addresses: frame.front,
         rest: frame.rest,
-    };
-    window.meet(&record).is_none()
+    }
 }
 
 /// Counts one more at a place.

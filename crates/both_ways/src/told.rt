@@ -1,7 +1,8 @@
 //! What a record of a capture tells of a frame.
-ghost use Rattle.std.specs.Prelude.{◌≡◌, ◌++◌, if◌then◌else◌};
-ghost use Rattle.both_ways.specs.Told.{Sent, Bare, packet_told, place_of, seen, told_of, underlay_told, untagged};
+ghost use Rattle.std.specs.Prelude.{◌≡◌, ◌++◌};
+ghost use Rattle.both_ways.specs.Told.{others_told, packet_told, place_of, seen, told_of, underlay_told, untagged};
 
+use crate::sender::is_sent;
 use decapsulate::{Packet, carried_in};
 use overlay::underlay::Underlay;
 use timeline::Tap;
@@ -20,9 +21,11 @@ pub(crate) struct FrameText<'a> {
 pub(crate) enum Told<'a> {
     /// A packet that the endpoint itself sent.
     Sent,
-    /// A frame.
+    /// A frame at a port: it came in there, or the switch sent it.
     Frame(FrameText<'a>),
-    /// A packet of the underlay that brings no frame to the endpoint.
+    /// A frame in a packet that another sent to the endpoint.
+    Came(FrameText<'a>),
+    /// A packet that another sent, and that brings no frame to the endpoint.
     Bare,
 }
 
@@ -46,9 +49,20 @@ pub(crate) fn told_of<'a>(underlay: &Underlay, tap: Tap, octets: &'a [u8]) -> To
     }
 }
 
-/// What octets tell, captured at the underlay.
+/// What octets tell, captured at the underlay. Who sent them is asked first: of what the endpoint sent nothing else is read.
 fn underlay_told<'a>(underlay: &Underlay, octets: &'a [u8]) -> Told<'a>
     ensures { seen result ≡ underlay_told underlay.now octets.now }
+{
+    if is_sent(underlay, octets) {
+        return Told::Sent;
+    }
+    others_told(underlay, octets)
+}
+
+/// What octets tell, captured at the underlay, that another sent.
+#[inline(always)]
+fn others_told<'a>(underlay: &Underlay, octets: &'a [u8]) -> Told<'a>
+    ensures { seen result ≡ others_told underlay.now octets.now }
 {
     match Packet::read(octets) {
         Ok(packet) => packet_told(underlay, &packet),
@@ -56,24 +70,14 @@ fn underlay_told<'a>(underlay: &Underlay, octets: &'a [u8]) -> Told<'a>
     }
 }
 
-/// What a packet tells. One that carries a frame to the endpoint doesn't come from the endpoint's own address.
+/// What a packet tells that another sent.
 fn packet_told<'a>(underlay: &Underlay, packet: &Packet<'a>) -> Told<'a>
     ensures { seen result ≡ packet_told underlay.now packet.now }
 {
     match carried_in(underlay, packet) {
-        Ok(carried) => Told::Frame(untagged(carried.inner)),
-        Err(_) => frameless(underlay.is_own(packet.source)),
+        Ok(carried) => Told::Came(untagged(carried.inner)),
+        Err(_) => Told::Bare,
     }
-}
-
-/// What a packet tells that brings no frame.
-fn frameless<'a>(is_own: bool) -> Told<'a>
-    ensures { seen result ≡ (if is_own then Sent else Bare) }
-{
-    if is_own {
-        return Told::Sent;
-    }
-    Told::Bare
 }
 
 /// A frame without its tag.

@@ -12,13 +12,13 @@ use Rattle.pcap.specs.declared.text.record.RecordFault.TheVariants as record_
 use Rattle.pcap.specs.declared.text.style.Style.{Style}
 use Rattle.pcap.specs.Fault.{capture_fault, record_fault}
 use Rattle.pcap.specs.InTurn.{IsReading, IsWhole}
-use Rattle.pcap.specs.Source.{Stream, New, IsFilled, IsOpened, ReadsHeader, after_end, answer, lent, most_left}
+use Rattle.pcap.specs.Source.{Stream, New, IsFilled, IsOpened, ReadsHeader, after_end, answer, ends_cut, lent, most_left}
 use Rattle.pcap.specs.declared.stream.fault.SourceFault.{SourceFault}
 use Rattle.pcap.specs.declared.stream.fault.SourceFault.TheVariants as source
 use Rattle.pcap.proofs.Runs.{begins, ends, one_more}
 use Rattle.pcap.proofs.Refusals.{faulty_end, is_refused, lends_none, no_answer, told_style}
 use Rattle.capture_compare.specs.Clocked.{latest, on_clock}
-use Rattle.capture_compare.specs.Compared.{fault_behind, fault_in, fault_of, records_in, records_of}
+use Rattle.capture_compare.specs.Compared.{fault_behind, fault_in, fault_of, is_cut, is_cut_by, is_cut_in, records_in, records_of}
 use Rattle.capture_compare.specs.Turns.{HasLent, IsDone, IsItsFault, StopsBehind, Waits, source_fault}
 use Rattle.capture_compare.specs.declared.fault.CompareFault.{CompareFault}
 use Rattle.capture_compare.specs.declared.fault.CompareFault.TheVariants as faults
@@ -80,14 +80,20 @@ no_fault side count Whole is = refl
 no_fault side count Cut is = refl
 no_fault side count (Faulty fault) is = absurd (no_answer (record_fault fault) is)
 
+ends_as : (end : End) → ends_cut (after_end end) ≡ is_cut end
+ends_as Whole = refl
+ends_as Cut = refl
+ends_as (Faulty fault) = refl
+
 pub has_all : (side : Side) (start old new : Stream) (rs : List Record) (count : ℕ) → HasLent start old rs count → IsFilled {T = Unit {0}} old new (Ok tt) → Ok tt ≡ answer new.standing → lent new.standing ≡ None
     → IsDone side start new rs
 has_all side start old new rs count so_far filled told none = record { all = λ text e. by (ends text rs old new (Ok tt) (so_far.reading text e) (record { filled = filled; answered = told; lends_none = none; no_failure = λ e. absurd cc })) }
   where
-    by : {text : List ℕ} → IsWhole text rs new → (records_in text ≡ rs) × (fault_in side text ≡ None)
+    by : {text : List ℕ} → IsWhole text rs new → (records_in text ≡ rs) × (fault_in side text ≡ None) × (ends_cut new.standing ≡ is_cut_in text)
     by whole = (
       ap (λ (r : Result Reading CaptureFault). records_of r) whole.records,
       ap (λ (r : Result Reading CaptureFault). fault_of side r) whole.records ∙ no_fault side (length rs) whole.end (told ∙ ap answer whole.stands),
+      ap ends_cut whole.stands ∙ ends_as whole.end ∙ sym (ap is_cut_by whole.records),
     )
 
 -- ---- a fault

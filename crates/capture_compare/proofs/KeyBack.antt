@@ -1,5 +1,5 @@
 -- A key is read as what it is the key of.
-use Rattle.std.proofs.Common.{◌≡◌, ◌≢◌, ◌∙◌, refl, ap, ap₂, ℕ, ◌+◌, ◌≤◌, List, [], ◌∷◌, ◌++◌, length, take, drop, Option, Some, cond, length-append, arith}
+use Rattle.std.proofs.Common.{◌≡◌, ◌≢◌, ◌∙◌, refl, ap, ap₂, ℕ, ◌≤◌, List, [], ◌∷◌, ◌++◌, length, take, drop, Option, Some, length-append, arith}
 use Rattle.std.proofs.lemmas.Bool.{cond-true, cond-false, eq-eqb, ne_eqb, le-leb}
 use Rattle.byteorder.specs.Numbers.{big_number-reads_back}
 use Rattle.wire.specs.Octets.{octets}
@@ -12,7 +12,7 @@ use Rattle.wire.specs.declared.ip_udp.addr.Tunnel.TheVariants.{Vxlan, Geneve}
 use Rattle.capture_compare.specs.Key.{counted, mark}
 use Rattle.capture_compare.specs.Tunnelled.{Tunnelled}
 use Rattle.capture_compare.specs.KeyRead.{addr_by, addr_in, addr_of, addr_split, counted_split, kind_by, read_by, vni_split, with_destination, with_options, with_source, with_vni}
-use Rattle.capture_compare.specs.LonelyLaws.{CanBe, KeyIsRead, OthersAreNot}
+use Rattle.capture_compare.specs.LonelyLaws.{KeyIsRead, OthersAreNot}
 
 front-of : (a b : List ℕ) → take (length a) (a ++ b) ≡ a
 front-of [] b = refl

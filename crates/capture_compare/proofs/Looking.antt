@@ -1,11 +1,11 @@
 -- The first record that is near, by where it stands.
-use Rattle.std.proofs.Common.{◌≡◌, ◌∙◌, refl, ap, ℕ, zero, suc, ◌+◌, ◌<◌, List, [], ◌∷◌, ◌++◌, length, take, drop, Option, Some, None, inl, inr, arith}
+use Rattle.std.proofs.Common.{◌≡◌, ◌∙◌, refl, ap, ℕ, zero, suc, ◌+◌, ◌<◌, List, [], ◌∷◌, Option, Some, None, inl, inr, arith}
 use Rattle.std.specs.List.{remove}
 use Rattle.std.proofs.lemmas.Bool.{cases_lt}
 use Rattle.record_match.specs.Match.{Record}
 use Rattle.capture_compare.specs.Difference.{or_else}
 use Rattle.capture_compare.specs.Looking.{FindsNear, IsFirstNear}
-use Rattle.capture_compare.specs.Near.{left_by, near_by, near_in, without}
+use Rattle.capture_compare.specs.Near.{left_by, near_in, without}
 use Rattle.capture_compare.specs.declared.lonely.difference.Difference.{Difference}
 use Rattle.capture_compare.specs.declared.lonely.segment.Reading.{Reading}
 

@@ -43,7 +43,7 @@ only-up (Some k) now S h = h.1
 
 -- what a step answers for a record that was sent and for which there is no room
 pub step-full : (manner : Manner) (clock : Clock) (s0 r0 s r : Stream) (sending receiving : Coming) (c d : Sifting) (m : ℕ) (x : Record) → Amidst manner clock s0 r0 s r sending receiving c → turn_of sending.next receiving.next ≡ turns.Sent m
-    → lent s.standing ≡ Some x → clock.sent_delay ≤ m → takes (at_moment m c.window) (told_by manner x.octets) ≡ false
+    → lent s.standing ≡ Some x → clock.sent_delay ≤ m → takes (at_moment m c.window) (told_by manner x) ≡ false
     → ((S R : List Seen) (now : ℕ) → IsSifted c S R now → now ≤ m → IsSifted d S R m) → d.window.within ≡ c.window.within
     → Stopped manner clock s0 r0 d (Err (faults.Full (m - clock.sent_delay)))
 step-full manner clock s0 r0 s r sending receiving c d m x h turn lends late full compared same = λ sent received e f.
@@ -57,7 +57,7 @@ step-full manner clock s0 r0 s r sending receiving c d m x h turn lends late ful
     let front : before m (on_clock manner clock.received_delay (records_in received)) ≡ R =
     ap (λ (l : List Seen). before m l) theirs.parts ∙ before-front m R theirs.behind known.early (starts-at receiving.next theirs.behind m theirs.starts known.no_earlier) in
     let had : has_room_for clock.within S R (seen_at manner m known.waits.next) ≡ false =
-    room-is manner clock.within h.now m c S R known.waits.next false h.compared next.1 h.within_is (ap (λ (x : Record). takes (at_moment m c.window) (told_by manner x.octets)) is ∙ full) in
+    room-is manner clock.within h.now m c S R known.waits.next false h.compared next.1 h.within_is (ap (λ (x : Record). takes (at_moment m c.window) (told_by manner x)) is ∙ full) in
     record {
       front = S;
       here = seen_at manner m known.waits.next;
@@ -86,7 +86,7 @@ up-to-next None now m S x is h g = tt
 up-to-next (Some k) now m S x is h g = (g, up-to-one k S x h.1 (omega (arith, g, is)))
 
 pub sent-now : (manner : Manner) (clock : Clock) (s0 r0 s r : Stream) (sending receiving : Coming) (c d : Sifting) (m : ℕ) (h : Amidst manner clock s0 r0 s r sending receiving c) → turn_of sending.next receiving.next ≡ turns.Sent m
-    → ((x : Record) → lent s.standing ≡ Some x → takes (at_moment m c.window) (told_by manner x.octets) ≡ true)
+    → ((x : Record) → lent s.standing ≡ Some x → takes (at_moment m c.window) (told_by manner x) ≡ true)
     → ((x : Record) (S R : List Seen) (now : ℕ) → lent s.standing ≡ Some x → IsSifted c S R now → now ≤ m → AreBefore m R → IsSifted d (S ++ seen_at manner m x ∷ []) R m) → d.window.within ≡ c.window.within
     → (x : Record) × (lent s.standing ≡ Some x) × HasLent s0 s (h.sent ++ x ∷ []) sending.fetched × SentNow manner clock s0 r0 s r receiving d (h.sent ++ x ∷ []) h.received m
 sent-now manner clock s0 r0 s r sending receiving c d m h turn had compared same =

@@ -143,6 +143,7 @@ counts-of within now c S R h is =
     record {
       sent_is = own.sent_is;
       received_is = own.received_is;
+      cut_is = own.cut_is;
       sent_aside_is = h.sent_aside_is;
       received_aside_is = h.received_aside_is;
       both_is = own.both_is ∙ ap (λ (w : ℕ). received_count (matched w (kept S) (kept R))) is;
@@ -160,6 +161,6 @@ window-is within now m c S R h le is =
         → ◌≡◌ {A = Window} (record { within = b; records = q; octets = p; held = x }) (record { within = a; records = r; octets = o; held = y })
     make a b r q o p e f g h = cc
 
-pub room-is : (manner : Manner) (within now m : ℕ) (c : Sifting) (S R : List Seen) (x : Record) (q : Bool) → IsSifted c S R now → now ≤ m → c.window.within ≡ within → takes (at_moment m c.window) (told_by manner x.octets) ≡ q
+pub room-is : (manner : Manner) (within now m : ℕ) (c : Sifting) (S R : List Seen) (x : Record) (q : Bool) → IsSifted c S R now → now ≤ m → c.window.within ≡ within → takes (at_moment m c.window) (told_by manner x) ≡ q
     → has_room_for within S R (seen_at manner m x) ≡ q
-room-is manner within now m c S R x q h le is e = ap (λ (w : Window). takes w (told_by manner x.octets)) (sym (window-is within now m c S R h le is)) ∙ e
+room-is manner within now m c S R x q h le is e = ap (λ (w : Window). takes w (told_by manner x)) (sym (window-is within now m c S R h le is)) ∙ e

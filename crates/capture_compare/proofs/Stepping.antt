@@ -1,8 +1,8 @@
 -- The beginning and the end of a comparison, and its steps by what their calls tell.
-use Rattle.std.proofs.Common.{◌≡◌, ◌≢◌, ◌∙◌, refl, sym, ap, subst, ℕ, ◌+◌, ◌-◌, ◌^◌, ◌≤◌, ◌<◌, Bool, true, false, List, [], ◌∷◌, ◌++◌, length, length-append, arith, Option, Some, None, IfSome, Result, Ok, Err}
+use Rattle.std.proofs.Common.{◌≡◌, ◌∙◌, refl, sym, ap, subst, ℕ, ◌+◌, ◌-◌, ◌^◌, ◌≤◌, ◌<◌, Bool, true, false, List, [], ◌∷◌, ◌++◌, length, length-append, arith, Option, Some, None, Result, Ok, Err}
 use Rattle.std.specs.Prelude.{IsSome}
 use Rattle.pcap.specs.Record.{Record}
-use Rattle.pcap.specs.Source.{Stream, lent, most_left}
+use Rattle.pcap.specs.Source.{Stream, ends_cut, lent, most_left}
 use Rattle.capture_compare.specs.Sifted.{IsSifted, Sifting, sifting}
 use Rattle.record_match.specs.Compared.{Counted}
 use Rattle.record_match.specs.Match.{Record as Matched, matched, received_count}
@@ -11,7 +11,7 @@ use Rattle.record_match.specs.Window.{at_moment}
 use Rattle.record_match.specs.declared.clock.Clock.{Clock}
 use Rattle.record_match.proofs.Meeting.{each_is_told}
 use Rattle.capture_compare.specs.Clocked.{AreBefore, AreUpTo, Seen, kept, latest, on_clock, seen_at}
-use Rattle.capture_compare.specs.Compared.{AllHadRoom, AreCounts, records_in, takes}
+use Rattle.capture_compare.specs.Compared.{AllHadRoom, AreCounts, is_cut_in, records_in, takes}
 use Rattle.capture_compare.specs.Turns.{Amidst, Fetches, HasLent, IsDone, MayReceive, MaySend, Stands, StandsBy, Steps, Stopped, StopsBehind, turn_of, unless_full}
 use Rattle.capture_compare.specs.declared.aside.Aside.{Aside}
 use Rattle.capture_compare.specs.declared.coming.Coming.{Coming}
@@ -64,13 +64,20 @@ both-begun manner clock s0 r0 s r sending receiving c h is sent received = recor
   received_later = if-some (λ k. (0 ≤ k) × AreUpTo k []) receiving.next (λ k e. (omega arith, tt));
 }
 
+-- where none waits both are done
+both-done : (manner : Manner) (clock : Clock) (s0 r0 s r : Stream) (sending receiving : Coming) (c : Sifting) (h : Amidst manner clock s0 r0 s r sending receiving c) → turn_of sending.next receiving.next ≡ turns.Done
+    → IsDone sides.Sent s0 s h.sent × IsDone sides.Received r0 r h.received
+both-done manner clock s0 r0 s r sending receiving c h turn =
+    let none = turn-done sending.next receiving.next turn in (
+      subst (λ (o : Option ℕ). StandsBy manner sides.Sent clock.sent_delay s0 s h.sent sending.fetched o) none.0 h.sent_stands.next,
+      subst (λ (o : Option ℕ). StandsBy manner sides.Received clock.received_delay r0 r h.received receiving.fetched o) none.1 h.received_stands.next,
+    )
+
 pub all-compared : (manner : Manner) (clock : Clock) (s0 r0 s r : Stream) (sending receiving : Coming) (c : Sifting) → Amidst manner clock s0 r0 s r sending receiving c → turn_of sending.next receiving.next ≡ turns.Done → Stopped manner clock s0 r0 c (Ok tt)
 all-compared manner clock s0 r0 s r sending receiving c h turn = λ sent received e f.
-    let none = turn-done sending.next receiving.next turn in
-    let mine_done : IsDone sides.Sent s0 s h.sent = subst (λ (o : Option ℕ). StandsBy manner sides.Sent clock.sent_delay s0 s h.sent sending.fetched o) none.0 h.sent_stands.next in
-    let mine = mine_done.all sent e in
-    let theirs_done : IsDone sides.Received r0 r h.received = subst (λ (o : Option ℕ). StandsBy manner sides.Received clock.received_delay r0 r h.received receiving.fetched o) none.1 h.received_stands.next in
-    let theirs = theirs_done.all received f in
+    let done = both-done manner clock s0 r0 s r sending receiving c h turn in
+    let mine = done.0.all sent e in
+    let theirs = done.1.all received f in
     let S = ap (λ (l : List Record). on_clock manner clock.sent_delay l) (sym mine.0) in
     let R = ap (λ (l : List Record). on_clock manner clock.received_delay l) (sym theirs.0) in
     record {
@@ -82,6 +89,13 @@ all-compared manner clock s0 r0 s r sending receiving c h turn = λ sent receive
       room = subst (λ (l : List Seen). AllHadRoom clock.within (on_clock manner clock.received_delay (records_in received)) [] l) S
           (subst (λ (l : List Seen). AllHadRoom clock.within l [] (on_clock manner clock.sent_delay h.sent)) R h.room);
     }
+
+-- and then it is known which ends within a record
+pub all-cut : (manner : Manner) (clock : Clock) (s0 r0 s r : Stream) (sending receiving : Coming) (c : Sifting) → Amidst manner clock s0 r0 s r sending receiving c → turn_of sending.next receiving.next ≡ turns.Done
+    → (sent received : List ℕ) → s0.supply.rest ≡ Some sent → r0.supply.rest ≡ Some received → (ends_cut s.standing ≡ is_cut_in sent) × (ends_cut r.standing ≡ is_cut_in received)
+all-cut manner clock s0 r0 s r sending receiving c h turn = λ sent received e f.
+    let done = both-done manner clock s0 r0 s r sending receiving c h turn in
+    ((done.0.all sent e).2, (done.1.all received f).2)
 
 -- ---- counts fit
 
@@ -134,13 +148,13 @@ full-by false m fault e = (refl, cc)
 -- a step that stops at a record that was sent, by what taking it tells
 pub step-full-by : (manner : Manner) (clock : Clock) (s0 r0 s r : Stream) (sending receiving : Coming) (c d : Sifting) (m delay : ℕ) (fault : CompareFault) → Amidst manner clock s0 r0 s r sending receiving c → turn_of sending.next receiving.next ≡ turns.Sent m
     → delay ≡ sending.delay → delay ≤ m
-    → ((x : Record) → lent s.standing ≡ Some x → ◌≡◌ {A = Result (Unit {0}) CompareFault} (Err fault) (unless_full (takes (at_moment m c.window) (told_by manner x.octets)) (m - delay)))
+    → ((x : Record) → lent s.standing ≡ Some x → ◌≡◌ {A = Result (Unit {0}) CompareFault} (Err fault) (unless_full (takes (at_moment m c.window) (told_by manner x)) (m - delay)))
     → ((S R : List Seen) (now : ℕ) → IsSifted c S R now → now ≤ m → IsSifted d S R m) → d.window.within ≡ c.window.within
     → Stopped manner clock s0 r0 d (Err fault)
 step-full-by manner clock s0 r0 s r sending receiving c d m delay fault h turn is late answer compared same =
     let known = (sends-next manner clock s0 r0 s r sending receiving c h m turn).0 in
     let x = known.waits.next in
-    let told = full-by (takes (at_moment m c.window) (told_by manner x.octets)) (m - delay) fault (answer x known.waits.lends) in
+    let told = full-by (takes (at_moment m c.window) (told_by manner x)) (m - delay) fault (answer x known.waits.lends) in
     let own : delay ≡ clock.sent_delay = is ∙ h.sent_stands.delay_is in
     let there : clock.sent_delay ≤ m = subst (λ (n : ℕ). n ≤ m) own late in
     subst (λ (f : CompareFault). Stopped manner clock s0 r0 d (Err f)) (sym (told.1 ∙ ap (λ (n : ℕ). faults.Full (m - n)) own))
@@ -149,12 +163,12 @@ step-full-by manner clock s0 r0 s r sending receiving c d m delay fault h turn i
 -- a step over a record that was sent, by what taking it and fetching the next one tell
 pub step-sent-by : (manner : Manner) (clock : Clock) (s0 r0 s t r : Stream) (sending after receiving : Coming) (c d : Sifting) (m n : ℕ) (result : Result (Unit {0}) CompareFault) → Amidst manner clock s0 r0 s r sending receiving c
     → turn_of sending.next receiving.next ≡ turns.Sent m
-    → ((x : Record) → lent s.standing ≡ Some x → ◌≡◌ {A = Result (Unit {0}) CompareFault} (Ok tt) (unless_full (takes (at_moment m c.window) (told_by manner x.octets)) n))
+    → ((x : Record) → lent s.standing ≡ Some x → ◌≡◌ {A = Result (Unit {0}) CompareFault} (Ok tt) (unless_full (takes (at_moment m c.window) (told_by manner x)) n))
     → ((x : Record) (S R : List Seen) (now : ℕ) → lent s.standing ≡ Some x → IsSifted c S R now → now ≤ m → AreBefore m R → IsSifted d (S ++ seen_at manner m x ∷ []) R m) → d.window.within ≡ c.window.within
     → ((start : Stream) (rs : List Record) → HasLent start s rs sending.fetched → m ≡ latest (on_clock manner sending.delay rs) → Fetches manner sending.side sending.delay start t rs after result)
     → Steps manner clock s0 r0 t r after receiving d result
 step-sent-by manner clock s0 r0 s t r sending after receiving c d m n result h turn answer compared same fetched =
-    let now = sent-now manner clock s0 r0 s r sending receiving c d m h turn (λ x e. room-by (takes (at_moment m c.window) (told_by manner x.octets)) n (answer x e)) compared same in
+    let now = sent-now manner clock s0 r0 s r sending receiving c d m h turn (λ x e. room-by (takes (at_moment m c.window) (told_by manner x)) n (answer x e)) compared same in
     let rs = h.sent ++ now.0 ∷ [] in
     let late : m ≡ latest (on_clock manner sending.delay rs) = sym now.3.latest_is ∙ ap (λ (k : ℕ). latest (on_clock manner k rs)) (sym h.sent_stands.delay_is) in
     step-sent manner clock s0 r0 t r after receiving d rs h.received m result now.3

@@ -1,5 +1,5 @@
 -- The rows of counts.
-use Rattle.std.proofs.Common.{◌≡◌, ◌≢◌, ◌≤◌, ◌<◌, ℕ, ◌+◌, ◌-◌, ◌^◌, ◌==◌, ◌&&◌, eqb, min, cond, Bool, true, false, if◌then◌else◌, List, [], ◌∷◌, length, length-set, get_or, set, refl, sym, ap, subst, ◌∙◌, arith}
+use Rattle.std.proofs.Common.{◌≡◌, ◌≢◌, ◌≤◌, ◌<◌, ℕ, ◌+◌, ◌-◌, ◌^◌, ◌&&◌, eqb, min, cond, Bool, true, false, if◌then◌else◌, List, [], ◌∷◌, length, length-set, get_or, set, refl, sym, ap, subst, ◌∙◌, arith}
 use Rattle.std.proofs.lemmas.Bool.{eqb-true, eqb-false}
 use Rattle.std.proofs.lemmas.List.{get_or-set_other, get_or-set_same}
 use Rattle.std.proofs.lemmas.List.Sums.{sum_by-cons}
@@ -7,7 +7,7 @@ use Rattle.std.specs.List.{FoldsTo}
 use Rattle.record_match.specs.Settled.{Fact, Both, ReceivedAlone, SentAlone}
 use Rattle.capture_compare.specs.Counts.{no_counts, sums_of}
 use Rattle.capture_compare.specs.declared.lines.counts.Counts.{Counts}
-use Rattle.capture_compare.specs.Counting.{counts_of, octets_of, row_number, with_fact}
+use Rattle.capture_compare.specs.Counting.{counts_of, record_of, row_number, with_fact}
 use Rattle.capture_compare.specs.Segments.{Index, segment_at}
 use Rattle.capture_compare.specs.SegmentsLaws.{AreCounts, EachRowCountsItsFacts, facts_in_row, is_both, is_in_row, was_received, was_sent}
 use Rattle.capture_compare.specs.declared.segments.counting.SegmentCounts.{SegmentCounts}
@@ -15,7 +15,7 @@ use Rattle.capture_compare.specs.declared.segments.reading.PlaceReading.{PlaceRe
 
 -- the row of a fact's segment
 abbrev row_of : SegmentCounts → Fact → ℕ
-row_of c fact = row_number (segment_at c.index c.reading (octets_of fact))
+row_of c fact = row_number (segment_at c.index c.reading (record_of fact))
 
 -- a row with what a fact adds, where it is that of the fact's segment
 abbrev row_with : Bool → Fact → Counts → Counts

@@ -7,17 +7,21 @@ use Rattle.std.specs.Prelude.{◌≤◌, ◌<◌, ⊤, ℕ, ◌+◌, max, nat_le
 use Rattle.pcap.specs.Record.{Record}
 use Rattle.record_match.specs.Match.{Record as Matched}
 use Rattle.capture_compare.specs.declared.carried.key.Manner.{Manner}
-use Rattle.capture_compare.specs.Key.{told_by}
+use Rattle.capture_compare.specs.Key.{Key, told_by}
 
 -- a record of a capture: its moment in nanoseconds, and its key, where it isn't left aside
 pub record Seen : Type 0 where
   pub moment : ℕ
-  pub key : Option (List ℕ)
+  pub key : Option Key
+
+-- what is compared of a record at a moment, by its key
+abbrev pub keyed_at : ℕ → Key → Matched
+keyed_at moment key = record { moment = moment; octets = key.octets; missing = key.missing }
 
 -- those that aren't left aside
-abbrev pub with_key : ℕ → Option (List ℕ) → List Matched → List Matched
+abbrev pub with_key : ℕ → Option Key → List Matched → List Matched
 with_key moment None rs = rs
-with_key moment (Some key) rs = record { moment = moment; octets = key } ∷ rs
+with_key moment (Some key) rs = keyed_at moment key ∷ rs
 
 abbrev pub kept : List Seen → List Matched
 kept [] = []
@@ -25,7 +29,7 @@ kept (r ∷ rs) = with_key r.moment r.key (kept rs)
 
 -- a record at a moment, by its key
 abbrev pub seen_at : Manner → ℕ → Record → Seen
-seen_at manner moment r = record { moment = moment; key = told_by manner r.octets }
+seen_at manner moment r = record { moment = moment; key = told_by manner r }
 
 -- records behind one of this moment, with so many nanoseconds more: each at the greatest moment up to it
 abbrev pub timed : Manner → ℕ → ℕ → List Record → List Seen

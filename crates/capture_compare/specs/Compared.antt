@@ -1,6 +1,7 @@
 -- What two captures are, compared. It states no standard.
 --     records_in     the records of a capture, up to its fault where it has one
 --     fault_in       that fault
+--     is_cut_in      whether a capture ends within a record
 --     has_room_for   whether a window has room for one more record that was sent
 --     Tells          what is told of two captures, by the answer
 use Rattle.std.specs.Prelude.{◌≡◌, ◌≢◌, ⊤, ℕ, ◌+◌, Bool, true, false, List, [], ◌∷◌, ◌++◌, length, map, Option, Some, None, Result, Ok, Err}
@@ -9,12 +10,13 @@ use Rattle.pcap.specs.Next.{End, Whole, Cut, Faulty}
 use Rattle.pcap.specs.Reading.{Reading}
 use Rattle.pcap.specs.Record.{Record}
 use Rattle.pcap.specs.declared.text.header.CaptureFault.{CaptureFault}
-use Rattle.record_match.specs.Compared.{octets_in}
+use Rattle.record_match.specs.Compared.{cut_in, octets_in}
 use Rattle.record_match.specs.Match.{Record as Matched, as_sent, matched, received_count}
 use Rattle.record_match.specs.Settled.{alone_from, held_alone, of_received, of_sent, told_from}
 use Rattle.record_match.specs.Window.{Window, has_room, still_held}
 use Rattle.record_match.specs.declared.clock.Clock.{Clock}
 use Rattle.capture_compare.specs.Clocked.{Seen, before, kept, on_clock, received_by, sent_by}
+use Rattle.capture_compare.specs.Key.{Key}
 use Rattle.capture_compare.specs.Sifted.{Sifting}
 use Rattle.capture_compare.specs.declared.fault.CompareFault.{CompareFault}
 use Rattle.capture_compare.specs.declared.fault.CompareFault.TheVariants as faults
@@ -48,14 +50,30 @@ fault_of side (Err fault) = Some (faults.Header side fault)
 abbrev pub fault_in : Side → List ℕ → Option CompareFault
 fault_in side text = fault_of side (opened text)
 
+-- whether they end within a record: a rest stands behind them that is no whole one
+abbrev pub is_cut : End → Bool
+is_cut Whole = false
+is_cut Cut = true
+is_cut (Faulty fault) = false
+
+abbrev pub is_cut_by : Result Reading CaptureFault → Bool
+is_cut_by (Ok reading) = is_cut reading.end
+is_cut_by (Err fault) = false
+
+-- a capture ends within a record: that is no fault
+abbrev pub is_cut_in : List ℕ → Bool
+is_cut_in text = is_cut_by (opened text)
+
 -- ---- what is counted
 
--- of the records that aren't left aside so many were sent, were received, and are both; all others were counted as left aside.
+-- of the records that aren't left aside so many were sent, were received, and are both, and so many of each are cut; all others
+-- were counted as left aside.
 -- Whoever looks on was told of each that was received what it is, and of those that were sent which weren't received; of those
 -- that are held still it is told at the end. Their numbers are those among the records that aren't left aside
 pub record AreCounts (within : ℕ) (sent received : List Seen) (c : Sifting) : Type 0 where
   pub sent_is : c.sent ≡ length (kept sent)
   pub received_is : c.received ≡ length (kept received)
+  pub cut_is : (c.cut.sent ≡ cut_in (kept sent)) × (c.cut.received ≡ cut_in (kept received))
   pub sent_aside_is : c.sent + c.aside.sent ≡ length sent
   pub received_aside_is : c.received + c.aside.received ≡ length received
   pub both_is : c.both ≡ received_count (matched within (kept sent) (kept received))
@@ -76,9 +94,9 @@ window_at within moment sent received = record {
 }
 
 -- a window has room for a record of this key: one that is left aside takes none
-abbrev pub takes : Window → Option (List ℕ) → Bool
+abbrev pub takes : Window → Option Key → Bool
 takes w None = true
-takes w (Some key) = has_room w (length key)
+takes w (Some key) = has_room w (length key.octets)
 
 -- there is room for one more record that was sent
 abbrev pub has_room_for : ℕ → List Seen → List Seen → Seen → Bool

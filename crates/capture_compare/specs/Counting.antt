@@ -1,6 +1,7 @@
 -- Records that are compared, counted in rows by their segments. It states no standard.
 --     with_fact      what was counted, once a fact was told
 use Rattle.std.specs.Prelude.{ℕ, List, set, slice_index_or, Option, Some, None}
+use Rattle.record_match.specs.Match.{Record}
 use Rattle.record_match.specs.Settled.{Fact, Both, ReceivedAlone, SentAlone}
 use Rattle.capture_compare.specs.Counts.{no_counts, sums_of}
 use Rattle.capture_compare.specs.declared.lines.counts.Counts.{Counts}
@@ -25,15 +26,15 @@ counts_of (Both moment number r) = record { sent = 1; received = 1; both = 1 }
 counts_of (ReceivedAlone number r) = record { sent = 0; received = 1; both = 0 }
 counts_of (SentAlone number r) = record { sent = 1; received = 0; both = 0 }
 
--- its octets
-abbrev pub octets_of : Fact → List ℕ
-octets_of (Both moment number r) = r.octets
-octets_of (ReceivedAlone number r) = r.octets
-octets_of (SentAlone number r) = r.octets
+-- that record
+abbrev pub record_of : Fact → Record
+record_of (Both moment number r) = r
+record_of (ReceivedAlone number r) = r
+record_of (SentAlone number r) = r
 
--- with counts added to those of the segment of a record of these octets
-abbrev pub with_record : List ℕ → Counts → SegmentCounts → SegmentCounts
-with_record b counts c = record c { rows = rows_with (segment_at c.index c.reading b) counts c.rows }
+-- with counts added to those of the segment of a record
+abbrev pub with_record : Record → Counts → SegmentCounts → SegmentCounts
+with_record r counts c = record c { rows = rows_with (segment_at c.index c.reading r) counts c.rows }
 
 abbrev pub with_fact : Fact → SegmentCounts → SegmentCounts
-with_fact fact c = with_record (octets_of fact) (counts_of fact) c
+with_fact fact c = with_record (record_of fact) (counts_of fact) c

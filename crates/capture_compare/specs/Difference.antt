@@ -1,4 +1,5 @@
--- The one thing in which a record that was received differs from one that was sent, by their keys. It states no standard.
+-- The one thing in which a record that was received differs from one that was sent, by their keys, where as many octets of both
+-- are missing. It states no standard.
 --     tunnel_difference    of what two packets carry: the kind, the address to which they go, or the VNI
 --     frame_difference     of two frames: the tag, or the length
 use Rattle.std.specs.Prelude.{ℕ, ◌==◌, ◌&&◌, ◌||◌, not, nat_lt, if◌then◌else◌, Bool, true, false, List, length, take, Option, Some, None}
@@ -79,9 +80,10 @@ is_tag_alone sent received =
 abbrev pub is_length_alone : List ℕ → List ℕ → Bool
 is_length_alone sent received = not (length sent == length received) && (begins received sent || begins sent received)
 
-abbrev pub length_difference : List ℕ → List ℕ → Option Difference
-length_difference sent received =
-    if is_length_alone sent received then Some (Length (length received) (length sent)) else None
+-- of whole ones: of what is cut nobody knows how it goes on
+abbrev pub length_difference : ℕ → List ℕ → List ℕ → Option Difference
+length_difference missing sent received =
+    if missing == 0 && is_length_alone sent received then Some (Length (length received) (length sent)) else None
 
 abbrev pub tag_difference : Option BareFrame → Option BareFrame → Option Difference
 tag_difference (Some sent) (Some received) = if is_tag_alone sent received then Some (Tag received.vid sent.vid) else None
@@ -93,10 +95,11 @@ abbrev pub or_else : Option Difference → Option Difference → Option Differen
 or_else (Some d) other = Some d
 or_else None other = other
 
-abbrev pub frame_difference : List ℕ → List ℕ → Option Difference
-frame_difference sent received = or_else (tag_difference (bare_of sent) (bare_of received)) (length_difference sent received)
+abbrev pub frame_difference : ℕ → List ℕ → List ℕ → Option Difference
+frame_difference missing sent received =
+    or_else (tag_difference (bare_of sent) (bare_of received)) (length_difference missing sent received)
 
--- of records by their keys
-abbrev pub difference_by : Reading → List ℕ → List ℕ → Option Difference
-difference_by readings.Frame sent received = frame_difference sent received
-difference_by readings.Packet sent received = packet_difference sent received
+-- of records by their keys, where so many octets of each are missing
+abbrev pub difference_by : Reading → ℕ → List ℕ → List ℕ → Option Difference
+difference_by readings.Frame missing sent received = frame_difference missing sent received
+difference_by readings.Packet missing sent received = packet_difference sent received

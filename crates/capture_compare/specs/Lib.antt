@@ -5,6 +5,7 @@ pub mod Code
 pub mod Compared
 pub mod Counting
 pub mod Counts
+pub mod Cut
 pub mod Difference
 pub mod Key
 pub mod KeyRead

@@ -1,16 +1,19 @@
 -- Which record that was received alone is near one that was sent alone. It states no standard.
 --     near_in       what of the first that is near differs
 --     without       those that are left
-use Rattle.std.specs.Prelude.{ℕ, ◌-◌, nat_le, if◌then◌else◌, Bool, true, false, List, [], ◌∷◌, ◌++◌, drop, length, Option, Some, None}
+use Rattle.std.specs.Prelude.{ℕ, ◌-◌, ◌==◌, nat_le, if◌then◌else◌, List, [], ◌∷◌, ◌++◌, drop, length, Option, Some, None}
 use Rattle.record_match.specs.Match.{Record, is_within}
 use Rattle.capture_compare.specs.Difference.{difference_by, or_else}
 use Rattle.capture_compare.specs.declared.lonely.difference.Difference.{Difference}
 use Rattle.capture_compare.specs.declared.lonely.segment.Reading.{Reading}
 
--- what of a record that was received differs from one that was sent, where it may be that one by its moment
+-- what of a record that was received differs from one that was sent, where it may be that one by its moment, and as many octets
+-- of both are missing
 abbrev pub near_by : Reading → ℕ → Record → Record → Option Difference
 near_by reading within sent received =
-    if is_within within sent.moment received.moment then difference_by reading sent.octets received.octets else None
+    if is_within within sent.moment received.moment
+    then (if sent.missing == received.missing then difference_by reading sent.missing sent.octets received.octets else None)
+    else None
 
 -- of some that were received one after another, what of the first that differs in one thing does
 abbrev pub near_in : Reading → ℕ → Record → List Record → Option Difference

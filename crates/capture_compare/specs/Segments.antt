@@ -7,7 +7,8 @@ use Rattle.overlay.specs.declared.ports.port.PortRule.{PortRule}
 use Rattle.overlay.specs.Overlay.{Overlay, has_segment, segment_by, told}
 use Rattle.overlay.specs.declared.underlay.settings.Underlay.{Underlay}
 use Rattle.overlay.specs.Settings.{Settings, tunnel_rule}
-use Rattle.capture_compare.specs.Tunnelled.{tunnelled}
+use Rattle.capture_compare.specs.Tunnelled.{tunnelled_whole}
+use Rattle.record_match.specs.Match.{Record}
 use Rattle.capture_compare.specs.declared.carried.tunnels.Tunnels.{Tunnels}
 use Rattle.wire.specs.declared.ip_udp.addr.Tunnel.{Tunnel as TunnelKind}
 use Rattle.capture_compare.specs.Segment as tells
@@ -71,13 +72,13 @@ told_segment S NoTunnel = None
 abbrev pub key_segment : Index → List ℕ → Option ℕ
 key_segment i key = told_segment i.overlay (tells.packet_segment key)
 
-abbrev pub packet_segment : Index → List ℕ → Option ℕ
-packet_segment i b = told_segment i.overlay (tunnel_segment (tunnelled (tunnels_of i.overlay.underlay) b))
+abbrev pub packet_segment : Index → Record → Option ℕ
+packet_segment i r = told_segment i.overlay (tunnel_segment (tunnelled_whole (tunnels_of i.overlay.underlay) r.missing r.octets))
 
 -- ---- records
 
 -- the VID of a record's segment, by how its octets are read
-abbrev pub segment_at : Index → PlaceReading → List ℕ → Option ℕ
-segment_at i (Port port) b = port_segment i port b
-segment_at i Keys b = key_segment i b
-segment_at i Packets b = packet_segment i b
+abbrev pub segment_at : Index → PlaceReading → Record → Option ℕ
+segment_at i (Port port) r = port_segment i port r.octets
+segment_at i Keys r = key_segment i r.octets
+segment_at i Packets r = packet_segment i r

@@ -4,7 +4,7 @@ use Rattle.std.specs.List.{FoldsTo, count_by}
 use Rattle.record_match.specs.Settled.{Fact, Both, ReceivedAlone, SentAlone}
 use Rattle.capture_compare.specs.Counts.{no_counts, sums_of}
 use Rattle.capture_compare.specs.declared.lines.counts.Counts.{Counts}
-use Rattle.capture_compare.specs.Counting.{octets_of, row_number, with_fact}
+use Rattle.capture_compare.specs.Counting.{record_of, row_number, with_fact}
 use Rattle.capture_compare.specs.Segments.{Index, segment_at}
 use Rattle.capture_compare.specs.declared.segments.counting.SegmentCounts.{SegmentCounts}
 use Rattle.capture_compare.specs.declared.segments.reading.PlaceReading.{PlaceReading}
@@ -29,7 +29,7 @@ is_both (SentAlone number r) = false
 
 -- its segment has the row of this number
 abbrev pub is_in_row : Index → PlaceReading → ℕ → Fact → Bool
-is_in_row i reading n fact = row_number (segment_at i reading (octets_of fact)) == n
+is_in_row i reading n fact = row_number (segment_at i reading (record_of fact)) == n
 
 -- how many of some facts are of records of that row
 abbrev pub facts_in_row : Index → PlaceReading → ℕ → List Fact → Counts

@@ -2,6 +2,7 @@
 --     kind_at      the kind of a tunnel, by its port
 --     is_taken     whether a UDP checksum is one that is passed over
 --     tunnelled    what a packet carries, where it is one of a tunnel
+--     tunnelled_whole    the same where it may be cut
 use Rattle.std.specs.Prelude.{ℕ, ◌==◌, ◌||◌, not, is_some, if◌then◌else◌, Bool, true, false, List, [], Option, Some, None}
 use Rattle.wire.specs.Octets.{part}
 use Rattle.wire.specs.First.{first}
@@ -81,3 +82,7 @@ carried_in T p =
 -- or IPv6, UDP with a checksum that is taken, and the tunnel's header
 abbrev pub tunnelled : Tunnels → List ℕ → Option Tunnelled
 tunnelled T b = if is_some (first (frame_reasons b)) then None else carried_in T (packet_in b)
+
+-- the same of a packet of which so many octets are missing: one that is cut is none of a tunnel
+abbrev pub tunnelled_whole : Tunnels → ℕ → List ℕ → Option Tunnelled
+tunnelled_whole T missing b = if missing == 0 then tunnelled T b else None

@@ -5,7 +5,7 @@ use Rattle.pcap.specs.Record.{Record}
 use Rattle.pcap.specs.declared.text.header.CaptureFault.TheVariants as capture
 use Rattle.pcap.specs.declared.text.record.RecordFault.TheVariants as record_
 use Rattle.pcap.specs.InTurn.{IsReading}
-use Rattle.pcap.specs.Source.{Stream, New, lent, most_left}
+use Rattle.pcap.specs.Source.{Stream, New, ends_cut, lent, most_left}
 use Rattle.pcap.specs.declared.stream.fault.SourceFault.{SourceFault}
 use Rattle.pcap.specs.declared.stream.fault.SourceFault.TheVariants as source
 use Rattle.record_match.specs.Compared.{Counted}
@@ -13,7 +13,7 @@ use Rattle.record_match.specs.Settled.{Fact, Shows}
 use Rattle.record_match.specs.declared.clock.Clock.{Clock}
 use Rattle.capture_compare.specs.Clocked.{AreBefore, AreUpTo, latest, on_clock}
 use Rattle.capture_compare.specs.Sifted.{IsSifted, Sifting, sifting}
-use Rattle.capture_compare.specs.Compared.{AllHadRoom, Tells, fault_in, records_in}
+use Rattle.capture_compare.specs.Compared.{AllHadRoom, Tells, fault_in, is_cut_in, records_in}
 use Rattle.capture_compare.specs.declared.aside.Aside.{Aside}
 use Rattle.capture_compare.specs.declared.turn.Turn.{Turn}
 use Rattle.capture_compare.specs.declared.turn.Turn.TheVariants as turns
@@ -40,9 +40,10 @@ pub record Waits (manner : Manner) (delay : ℕ) (start now : Stream) (rs : List
   pub taken : HasLent start now (rs ++ next ∷ []) count
   pub moment_is : moment ≡ max (next.moment + delay) (latest (on_clock manner delay rs))
 
--- all records of a capture were taken, and it has no fault
+-- all records of a capture were taken, it has no fault, and it is known whether it ends within a record
 pub record IsDone (side : Side) (start now : Stream) (rs : List Record) : Type 0 where
-  pub all : (text : List ℕ) → start.supply.rest ≡ Some text → (records_in text ≡ rs) × (fault_in side text ≡ None)
+  pub all : (text : List ℕ) → start.supply.rest ≡ Some text
+      → (records_in text ≡ rs) × (fault_in side text ≡ None) × (ends_cut now.standing ≡ is_cut_in text)
 
 -- by the moment of the next one
 abbrev pub StandsBy : Manner → Side → ℕ → Stream → Stream → List Record → ℕ → Option ℕ → Type 0

@@ -22,12 +22,13 @@
 //!   critical options are known, in whole texts, whose UDP checksum is none, right, or left to a card where that is
 //!   taken, carries its VNI, options and inner text between its addresses, whatever else stands in its headers:
 //!   `carried_is_read`.
-//! - Strictly the key of a record is all its octets: `Sameness::of_underlay`.
+//! - Strictly the key of a record is all its octets; else one that is cut is compared as it stands, as what is no packet
+//!   of a tunnel: `Sameness::of_underlay`.
 //! - A record is left aside exactly where that is asked for and its frame of 14 octets or more goes to
 //!   01-80-C2-00-00-00 to -0F (IEEE 802.1Q, 8.6.3, table 8-1): `Manner::ignores`.
 //!
-//! Why it is so: a packet with a critical option that nobody said to be known is compared as it stands, as are fragments, and
-//! as is one whose UDP checksum is wrong: a receiver drops it (RFC 768; RFC 1122, 4.1.3.4), so it isn't one that carries
+//! Why it is so: a packet with a critical option that nobody said to be known is compared as it stands, as are fragments, what
+//! is cut, and one whose UDP checksum is wrong: a receiver drops it (RFC 768; RFC 1122, 4.1.3.4), so it isn't one that carries
 //! something. Only packets at a tunnel's port are summed up.
 
 mod key;
@@ -35,6 +36,8 @@ pub mod laws;
 mod tunnelled;
 mod tunnels;
 
+pub(crate) use key::{Key, missing_of};
 pub use key::{KeyRoom, Manner, Sameness};
+pub(crate) use tunnelled::tunnelled_whole;
 pub use tunnelled::{Tunnelled, tunnelled_in};
 pub use tunnels::Tunnels;

@@ -1,10 +1,10 @@
 //! The records of two captures in the order of their moments.
 ghost use Rattle.std.specs.Prelude.{◌≡◌, ◌≤◌, ◌<◌, ◌+◌, ◌^◌, ℕ, List, [], Some, IfSome, OnOk};
-ghost use Rattle.pcap.specs.Source.{New, Stream, most_left};
+ghost use Rattle.pcap.specs.Source.{New, Stream, ends_cut, most_left};
 ghost use Rattle.record_match.specs.Compared.{IsCompared, logged};
 ghost use Rattle.record_match.specs.Settled.{Shows};
 ghost use Rattle.record_match.specs.declared.clock.Clock.{Clock as AClock};
-ghost use Rattle.capture_compare.specs.Compared.{Tells};
+ghost use Rattle.capture_compare.specs.Compared.{Tells, is_cut_in};
 ghost use Rattle.capture_compare.specs.Sifted.{sifting};
 ghost use Rattle.capture_compare.specs.Turns.{IsShown, MayReceive, MaySend, StepIsShown, turn_of};
 ghost use Rattle.capture_compare.specs.declared.coming.Coming.{Coming as AComing};
@@ -27,7 +27,8 @@ use record_match::{Clock, Comparison, Onlooker};
 /// comparison is one of no records, for those that are received so much later as the clock tells.
 ///
 /// The faults are those of the captures, in the order in which their records come; or `Full` with the moment, where the window
-/// has no room. The comparison has then what was compared before.
+/// has no room. The comparison has then what was compared before. A capture that ends within a record has no fault by that: its
+/// source says so behind it, [`Source::is_cut`].
 pub fn compare_captures<R: Input, W: Onlooker>(
     sent: &mut Source<R>,
     received: &mut Source<R>,
@@ -50,6 +51,9 @@ pub fn compare_captures<R: Input, W: Onlooker>(
     ensures told { Shows W.sees onlooker.old onlooker.new (λ log. (sent_text received_text : List ℕ)
         → sent.old.supply.rest ≡ Some sent_text → received.old.supply.rest ≡ Some received_text
         → Tells manner.now clock sent_text received_text (sifting comparison.new log aside.new) result) }
+    ensures cut { OnOk result ((sent_text received_text : List ℕ)
+        → sent.old.supply.rest ≡ Some sent_text → received.old.supply.rest ≡ Some received_text
+        → (ends_cut sent.new.standing ≡ is_cut_in sent_text) × (ends_cut received.new.standing ≡ is_cut_in received_text)) }
 {
     let mut sending = Coming::new(Side::Sent, clock.sent_delay);
     sending.open(sent)?;

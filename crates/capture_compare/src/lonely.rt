@@ -8,8 +8,8 @@
 //! segments and differences print.
 //!
 //! Proved: of every key what it tells is the definition's, and which record is named is the first of those that are held, in
-//! the time in which it may be received, that differs in one thing; it isn't named again. By the law of [`laws`] the key of
-//! what a tunnel carries is read as just that. A segment and a difference print as the definition's texts.
+//! the time in which it may be received, with as many octets missing, that differs in one thing; it isn't named again. By the law
+//! of [`laws`] the key of what a tunnel carries is read as just that. A segment and a difference print as the definition's texts.
 //!
 //! Proved besides:
 //! - The segment that a record tells is that of the definition: `segment_of`. From the key of what a tunnel carries

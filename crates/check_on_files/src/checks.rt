@@ -18,7 +18,6 @@ use runs_on_files::Texts;
 use std::fmt::Write;
 use std::io::{Input, Read};
 use std::rt::Files;
-use stream_run::Watch;
 use text_advice::{TextKind, advice, syntax_error_at};
 use text_calls::{check_read, read_texts, tap_of};
 use timeline::Tap;
@@ -51,11 +50,10 @@ impl<'a> Seen<'a> {
 
 /// Looks at the texts and the captures, and prints what is in them: where and why a text is refused; which changes will be
 /// refused; what each capture holds. The first fault is answered that a run would meet; and only where there is none, that
-/// something couldn't be printed. `nobody` looks on where the captures are run once more: of a type that the plain run hasn't, so
-/// that the plain run's steps are compiled for it alone.
-pub fn check<'a, R: Files + Input + AllocGlobal + Print, N: Watch>(
+/// something couldn't be printed.
+#[inline(never)]
+pub fn check<'a, R: Files + Input + AllocGlobal + Print>(
     rt: &R,
-    nobody: &mut N,
     shown: Shown,
     settings: &'a str,
     changes: Option<&'a str>,
@@ -81,7 +79,7 @@ pub fn check<'a, R: Files + Input + AllocGlobal + Print, N: Watch>(
                 ports,
                 digests: None,
             };
-            print_echoes(rt, shown, names, &texts, &counts, nobody)
+            print_echoes(rt, shown, names, &texts, &counts)
         }
         Err(_) => Ok(()),
     };

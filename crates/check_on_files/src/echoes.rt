@@ -1,7 +1,7 @@
 //! Captures that look as if they had both directions, though a run without `--both` takes all that is in them.
 ghost use Rattle.std.specs.Prelude.{◌<◌};
 
-use both_ways::{BothWays, WITHIN, sieve_of};
+use both_ways::{BothWays, Nobody, WITHIN, sieve_of};
 use capture_survey::Echoes;
 use program_faults::Failure;
 use program_files::{FailedOutputs, Names, Shown, print_shown};
@@ -9,7 +9,6 @@ use runs_on_files::{Job, Scope, Texts, run_on_files};
 use std::fmt::Write;
 use std::io::Input;
 use std::rt::Files;
-use stream_run::Watch;
 use text_calls::tap_of;
 use timeline::Tap;
 
@@ -52,21 +51,20 @@ fn place_of(tap: Tap) -> usize
     }
 }
 
-/// Prints of which captures many records are what a run with `--both` leaves out. The captures hold so many records; they are
-/// read once more, by a run that writes nothing and that nobody looks on at. What can be read only once isn't looked at, and
-/// nothing is told where that run stops at a fault.
-pub(crate) fn print_echoes<'j, R: Files + Input + AllocGlobal + Print, N: Watch>(
+/// Prints of which captures many records are what a run with `--both` leaves out, and below that what such a run forgets for want
+/// of room. The captures hold so many records; they are read once more, by a run that writes nothing and that nobody looks on at.
+/// What can be read only once isn't looked at, and nothing is told where that run stops at a fault.
+pub(crate) fn print_echoes<'j, R: Files + Input + AllocGlobal + Print>(
     rt: &R,
     shown: Shown,
     names: Names<'j, '_>,
     texts: &'j Texts,
     counts: &RecordCounts,
-    nobody: &mut N,
 ) -> Result<(), Failure<'static>> {
     if names.first_read_once(rt).is_some() {
         return Ok(());
     }
-    let Some(sieve) = sieve_behind(rt, names, texts, nobody) else {
+    let Some(sieve) = sieve_behind(rt, names, texts) else {
         return Ok(());
     };
     let mut lines = String::new(rt.alloc());
@@ -76,15 +74,20 @@ pub(crate) fn print_echoes<'j, R: Files + Input + AllocGlobal + Print, N: Watch>
     }
     let echoes = echoes_at(&sieve, counts, Tap::Underlay);
     write!(lines, "{echoes}")?;
+    // What came in alone may be more than fits, and then nothing is amiss.
+    if !lines.is_empty() {
+        if let Some(line) = sieve.forgotten_line() {
+            write!(lines, "{line}\n")?;
+        }
+    }
     print_shown(rt, shown, lines.as_bytes())
 }
 
 /// What a run with `--both` leaves out, behind it.
-fn sieve_behind<'j, R: Files + Input + AllocGlobal, N: Watch>(
+fn sieve_behind<'j, R: Files + Input + AllocGlobal>(
     rt: &R,
     names: Names<'j, '_>,
     texts: &'j Texts,
-    nobody: &mut N,
 ) -> Option<BothWays> {
     let Ok(Some(sieve)) = sieve_of(rt.alloc(), texts.settings.as_slice(), Some(WITHIN)) else {
         return None;
@@ -98,7 +101,7 @@ fn sieve_behind<'j, R: Files + Input + AllocGlobal, N: Watch>(
         scope: Scope::Whole,
     };
     let mut failed = FailedOutputs::new();
-    match run_on_files(rt, job, &mut sieve, nobody, &mut failed) {
+    match run_on_files(rt, job, &mut sieve, &mut Nobody, &mut failed) {
         Ok(_) => Some(sieve),
         Err(_) => None,
     }

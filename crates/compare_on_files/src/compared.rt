@@ -40,6 +40,7 @@ pub struct Compared<'a> {
 
 /// Compares two captures, and prints how many records were sent, were received, are both, and are of one alone. What was
 /// compared before a fault is printed, too. Where both are the same it is done; else they differ.
+#[inline(never)]
 pub fn compare<'a, R: Files + Input + AllocGlobal + Print>(
     rt: &R,
     asked: Compared<'a>,

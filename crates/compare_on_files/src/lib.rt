@@ -15,6 +15,7 @@
 
 mod aside;
 mod compared;
+mod cut;
 pub mod events;
 mod lonely;
 mod opened;

@@ -3,14 +3,16 @@ ghost use Rattle.std.specs.Prelude.{◌≡◌, ◌≤◌, ◌<◌, ◌^◌};
 ghost use Rattle.pcap.specs.Source.{New, most_left};
 
 use crate::aside::print_aside;
+use crate::cut::{print_cut, print_cut_end};
 use crate::paired::{Outcome, Pairing, compare_told};
 use crate::report::{Report, Told, open_report};
 use crate::segments::Segments;
-use capture_compare::Aside;
 use capture_compare::carried::{Manner, Sameness};
 use capture_compare::lines::{CountLines, Counts, Scope};
+use capture_compare::{Aside, Side};
 use program_faults::Failure;
 use program_files::{SeenCapture, Shown, print_shown};
+use record_match::Cut;
 use std::io::Read;
 use std::rt::Files;
 use timeline::Tap;
@@ -56,21 +58,22 @@ fn compare_reported<'a, R: AllocGlobal + Print, F: Read + Drop, I: Read + Drop, 
     requires sent_delay { pairing.now.clock.sent_delay ≤ 2000000000000000000 }
     requires received_delay { pairing.now.clock.received_delay ≤ 2000000000000000000 }
 {
-    let Outcome { counts, aside, end } = compare_told(
-        rt.alloc(),
-        pairing,
-        manner,
-        sent,
-        received,
-        report,
-    )?;
+    let Outcome {
+        counts,
+        cut,
+        aside,
+        end,
+    } = compare_told(rt.alloc(), pairing, manner, sent, received, report)?;
     let aside = manner.ignores_reserved.then_some(aside);
-    let printed = print_counts(rt, report.shown(), pairing.at, counts, aside);
+    let shown = report.shown();
+    let printed = print_counts(rt, shown, pairing.at, counts, cut, aside);
     let reported = report.finish();
-    match end.and(printed).and(reported) {
-        Ok(()) => Ok(counts),
-        Err(failure) => Err(failure),
+    if let Err(failure) = end.and(printed).and(reported) {
+        return Err(failure);
     }
+    print_cut_end(rt, shown, pairing.at, Side::Sent, sent)?;
+    print_cut_end(rt, shown, pairing.at, Side::Received, received)?;
+    Ok(counts)
 }
 
 /// The same where records are the same octet for octet, and those that no bridge forwards may be left aside.
@@ -104,19 +107,21 @@ pub(crate) fn compare_whole<'a, R: AllocGlobal + Print + Files, F: Read + Drop, 
     )
 }
 
-/// Prints the counts of a place, or of two captures that stand for themselves, and how many records were left aside, where some
-/// may be.
+/// Prints the counts of a place, or of two captures that stand for themselves, how many records are cut, where one is, and how many
+/// were left aside, where some may be.
 fn print_counts<R: AllocGlobal + Print>(
     rt: &R,
     shown: Shown,
     at: Option<Tap>,
     counts: Counts,
+    cut: Cut,
     aside: Option<Aside>,
 ) -> Result<(), Failure<'static>> {
     match at {
         Some(tap) => print_lines(rt, shown, Scope::Place(tap), counts)?,
         None => print_lines(rt, shown, Scope::Pair, counts)?,
     }
+    print_cut(rt, shown, at, cut)?;
     print_aside(rt, shown, at, aside)
 }
 

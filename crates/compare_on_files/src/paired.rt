@@ -8,7 +8,7 @@ use capture_compare::lines::Counts;
 use capture_compare::{Aside, CompareFault, Side, compare_captures};
 use program_faults::Failure;
 use program_files::SeenCapture;
-use record_match::{Clock, Comparison, Nobody, Onlooker};
+use record_match::{Clock, Comparison, Cut, Nobody, Onlooker};
 use std::alloc::{AllocError, Global};
 use std::io::Read;
 use timeline::Tap;
@@ -27,6 +27,8 @@ pub(crate) struct Pairing<'a> {
 #[derive(Drop)]
 pub(crate) struct Outcome<'a> {
     pub(crate) counts: Counts,
+    /// How many records are cut.
+    pub(crate) cut: Cut,
     /// How many records were left aside.
     pub(crate) aside: Aside,
     pub(crate) end: Result<(), Failure<'a>>,
@@ -92,14 +94,17 @@ fn compare_pair<'a, F: Read + Drop, I: Read + Drop, W: Onlooker>(
     );
     comparison.finish(onlooker);
     let counts = Counts::of(&comparison);
+    let cut = comparison.cut();
     Ok(match compared {
         Ok(()) => Outcome {
             counts,
+            cut,
             aside,
             end: Ok(()),
         },
         Err(fault) => Outcome {
             counts,
+            cut,
             aside,
             end: Err(failure_of(pairing, fault, sent, received)),
         },

@@ -50,6 +50,7 @@ pub struct Worked<'n, 'a> {
 /// of the settings, and of all: at ports records are the same octet for octet, at the underlay what packets carry in tunnels, unless
 /// that is to be strict, too. What was compared before a fault is printed, too, but for the counts of segments. Where all is the same
 /// it is done; else they differ.
+#[inline(never)]
 pub fn compare_worked<'a, R: Files + Input + AllocGlobal + Print>(
     rt: &R,
     asked: Worked<'_, 'a>,

@@ -47,6 +47,7 @@ impl Model for Line {
 
 impl Line {
     /// An empty line.
+    #[inline(never)]
     pub fn new() -> Line
         ensures { result ≡ [] }
     {

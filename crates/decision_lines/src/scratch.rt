@@ -25,6 +25,7 @@ pub struct Scratch {
 
 impl Scratch {
     /// An empty one, before the first event.
+    #[inline(never)]
     pub fn new() -> Scratch
         ensures number { result.number ≡ 0 }
         ensures line { result.line ≡ [] }

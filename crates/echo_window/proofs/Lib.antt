@@ -1,3 +1,4 @@
+mod Crowding
 mod Firsts
 mod Indexing
 mod Keeping

@@ -2,19 +2,24 @@
 use Rattle.std.proofs.Common.{◌≡◌, ℕ, ◌<◌, List, length, get_or, take, drop, refl, sym, ap, ◌∙◌}
 use Rattle.echo_window.specs.Echo.{Arrival, Record, Window, first_met, is_echo_of, octets_of}
 use Rattle.echo_window.specs.Laid.{came_of, laid, lengths}
+use Rattle.echo_window.specs.declared.forgotten.Forgotten.{Forgotten}
 use Rattle.echo_window.specs.declared.kept.Kept.{Kept}
 use Rattle.echo_window.proofs.Laying.{laid-at, laid-length, laid-octets}
 
-pub came-is : {w : ℕ} {came : List Arrival} {now : Window} → record { within = w; came = came } ≡ now → came ≡ now.came
+pub came-is : {w : ℕ} {came : List Arrival} {f : Forgotten} {now : Window} → record { within = w; came = came; forgotten = f } ≡ now → came ≡ now.came
 came-is v = ap (λ (x : Window). x.came) v
 
-pub within-is : {w : ℕ} {came : List Arrival} {now : Window} → record { within = w; came = came } ≡ now → w ≡ now.within
-within-is v = ap (λ (x : Window). x.within) v
+-- a window is another
+pub same-window : {w v : ℕ} {came more : List Arrival} {f g : Forgotten} → w ≡ v → came ≡ more → f ≡ g
+    → ◌≡◌ {A = Window} (record { within = w; came = came; forgotten = f }) (record { within = v; came = more; forgotten = g })
+same-window h k l = cc
 
 -- a window as another, but for the frames
-pub as-window : (w : ℕ) (came : List Arrival) (now : Window) (new want : List Arrival) → record { within = w; came = came } ≡ now → new ≡ want → ◌≡◌ {A = Window} (record { within = w; came = new }) (record { within = now.within; came = want })
-as-window w came now new want v e =
+pub as-window : (w : ℕ) (came : List Arrival) {f : Forgotten} (now : Window) (new want : List Arrival) → record { within = w; came = came; forgotten = f } ≡ now → new ≡ want
+    → ◌≡◌ {A = Window} (record { within = w; came = new; forgotten = f }) (record { within = now.within; came = want; forgotten = now.forgotten })
+as-window w came {f} now new want v e =
     let in_time : w ≡ now.within = ap (λ (x : Window). x.within) v in
+    let gone : f ≡ now.forgotten = ap (λ (x : Window). x.forgotten) v in
     cc
 
 pub count-is : (ks : List Kept) (row : List ℕ) (came : List Arrival) → laid ks row ≡ came → length came ≡ length ks

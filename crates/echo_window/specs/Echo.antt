@@ -3,12 +3,16 @@
 --     is_echo_of   a record is an echo of a frame that came in
 --     recent       the frames that an echo may be of at a moment
 --     newest       what is kept of the frames that came in
+--     crowded_out  what is forgotten of them for want of room
 --     echo_of      where the frame came in that a record is an echo of
 --     after        the frames that came in, once a record was met
---     echoes       the same for records in a row
-use Rattle.std.specs.Prelude.{ℕ, ◌+◌, nat_eq, nat_lt, nat_le, ◌&&◌, not, if◌then◌else◌, Bool, false, true, List, []}
+--     entered      the same, once one that is known to have come in did
+--     echoes       where the frames came in that records in a row are echoes of
+--     behind_met, behind_entered   what a window knows then
+use Rattle.std.specs.Prelude.{ℕ, ◌+◌, ◌-◌, ◌^◌, min, nat_eq, nat_lt, nat_le, ◌&&◌, not, if◌then◌else◌, Bool, false, true, List, []}
 use Rattle.std.specs.Prelude.{◌∷◌, ◌++◌, get_or, length, Option, Some, None, option_map, replicate, set, slice_index_or}
 use Rattle.std.specs.List.{find, flat_map, position}
+use Rattle.echo_window.specs.declared.forgotten.Forgotten.{Forgotten}
 use Rattle.wire.specs.Octets.{is_same}
 
 -- a record of a capture: the place where it was captured, its moment in nanoseconds, and the octets of its frame without tag
@@ -58,6 +62,11 @@ abbrev pub newest : List Arrival → List Arrival
 newest [] = []
 newest (c ∷ came) = if fits (c ∷ came) then c ∷ came else newest came
 
+-- the ages at a moment of those among frames that go since the others alone fit, the earliest first
+abbrev pub crowded_out : ℕ → List Arrival → List ℕ
+crowded_out moment [] = []
+crowded_out moment (c ∷ came) = if fits (c ∷ came) then [] else (moment - c.moment) ∷ crowded_out moment came
+
 -- a record that is no echo is a frame that came in, met nowhere else yet
 abbrev pub first_met : Record → Arrival
 first_met r = record { place = r.place; moment = r.moment; frame = r.frame; echoed = replicate 256 false }
@@ -83,12 +92,60 @@ with_met within came r = elim (position (is_echo_of within r) came)
 abbrev pub after : ℕ → List Arrival → Record → List Arrival
 after within came r = with_met within (recent within r.moment came) r
 
+-- what is kept of all frames once a record was met that is known to be no echo
+abbrev pub entered : ℕ → List Arrival → Record → List Arrival
+entered within came r = newest (recent within r.moment came ++ first_met r ∷ [])
+
+-- the ages of the recent frames that go for want of room when a record comes in: an echo of each might still come
+abbrev pub crowded_by : List Arrival → Record → List ℕ
+crowded_by came r = crowded_out r.moment (came ++ first_met r ∷ [])
+
+-- the same when any record is met: for an echo none goes
+abbrev pub lost : ℕ → List Arrival → Record → List ℕ
+lost within came r = elim (position (is_echo_of within r) came) [ Some i ↦ [] | None ↦ crowded_by came r ]
+
 -- for each of some records in a row, where the frame came in that it is an echo of
 abbrev pub echoes : ℕ → List Arrival → List Record → List (Option ℕ)
 echoes within came [] = []
 echoes within came (r ∷ rs) = echo_of within came r ∷ echoes within (after within came r) rs
 
--- what a window knows: how many nanoseconds later an echo may be, and the frames that came in, the earliest first
+-- the lesser of two numbers, of which the first may not be there
+abbrev pub lesser : Option ℕ → ℕ → ℕ
+lesser None n = n
+lesser (Some m) n = min m n
+
+-- what was forgotten, and one frame more, which went at this age. Frames are counted up to the greatest number of 64 bits
+abbrev pub with_age : Forgotten → ℕ → Forgotten
+with_age f age = record { count = min (f.count + 1) (2 ^ 64 - 1); least_age = Some (lesser f.least_age age) }
+
+-- the same of frames of these ages
+abbrev pub with_ages : Forgotten → List ℕ → Forgotten
+with_ages f [] = f
+with_ages f (age ∷ ages) = with_ages (with_age f age) ages
+
+-- what a window knows: how many nanoseconds later an echo may be; the frames that came in, the earliest first; and what went for
+-- want of room, although an echo of it might still have come
 pub record Window : Type 0 where
   pub within : ℕ
   pub came : List Arrival
+  pub forgotten : Forgotten
+
+-- no record was met yet
+abbrev pub new_window : ℕ → Window
+new_window within = record { within = within; came = []; forgotten = record { count = 0; least_age = None } }
+
+-- once a record was met
+abbrev pub behind_met : Window → Record → Window
+behind_met w r = record {
+  within = w.within;
+  came = after w.within w.came r;
+  forgotten = with_ages w.forgotten (lost w.within (recent w.within r.moment w.came) r);
+}
+
+-- once one was met that is known to be no echo
+abbrev pub behind_entered : Window → Record → Window
+behind_entered w r = record {
+  within = w.within;
+  came = entered w.within w.came r;
+  forgotten = with_ages w.forgotten (crowded_by (recent w.within r.moment w.came) r);
+}

@@ -27,6 +27,7 @@ const SHARE: u64 = 1_125_899_906_842_624;
 
 /// The bucket of the frame of a record, below 16,384: it depends on the frame's length, its first 60 octets, and its last 8.
 /// Frames that differ there share their bucket by chance. Frames that differ nowhere else share it always.
+#[inline(always)]
 pub(crate) fn bucket_of(met: &Record) -> usize
     ensures bucket { result ≡ bucket_of (told met.now).frame }
     ensures bound { result < 16384 }
@@ -36,6 +37,7 @@ pub(crate) fn bucket_of(met: &Record) -> usize
 
 /// The sum of two texts, one behind the other, which have so many octets. Mostly the first is empty, or holds the addresses: in
 /// each of these cases the compiler knows in which of them each of the words stands.
+#[inline(always)]
 fn sum_of(front: &[u8], rest: &[u8], count: usize) -> u64
     requires { count ≡ length (front.now ++ rest.now) }
     ensures { result ≡ sum_of (front.now ++ rest.now) }

@@ -1,11 +1,13 @@
 //! The latest frames that came in.
-ghost use Rattle.std.specs.Prelude.{◌≡◌, ◌≤◌, ◌<◌, ◌+◌, ◌&&◌, [], ◌∷◌, ◌++◌, IfOk, drop, length, nat_eq, nat_le, slice_index_or, true};
+ghost use Rattle.std.specs.Prelude.{◌≡◌, ◌≤◌, ◌<◌, ◌+◌, ◌-◌, ◌&&◌, [], ◌∷◌, ◌++◌, IfOk, drop, length, nat_eq, nat_le, slice_index_or, true};
 ghost use Rattle.std.specs.List.{position};
-ghost use Rattle.echo_window.specs.Echo.{after, echo_of, first_met, fits, is_echo_of, met_again, newest, recent, with_met};
+ghost use Rattle.echo_window.specs.Echo.{behind_entered, behind_met, crowded_by, echo_of, first_met, fits, is_echo_of, lost};
+ghost use Rattle.echo_window.specs.Echo.{met_again, new_window, newest, recent, with_age, with_ages, with_met};
 ghost use Rattle.echo_window.specs.Bucket.{bucket_of};
 ghost use Rattle.echo_window.specs.Laid.{begins_past, told};
 
 use crate::bucket::bucket_of;
+use crate::forgotten::Forgotten;
 use crate::index::Index;
 use crate::kept::Kept;
 use crate::place_set::PlaceSet;
@@ -19,8 +21,8 @@ use std::marker::Model;
 /// How many frames a window keeps at most.
 const MOST_FRAMES: usize = 4_096;
 
-/// The latest frames that came in, at most 4,096 of them and 4 MiB of octets, and the places where each was met again. Only
-/// [`Window::new`] takes memory.
+/// The latest frames that came in, at most 4,096 of them and 4 MiB of octets, the places where each was met again, and what was
+/// forgotten for want of room. Only [`Window::new`] takes memory.
 #[derive(Drop)]
 pub struct Window {
     /// How many nanoseconds later an echo may be.
@@ -30,6 +32,7 @@ pub struct Window {
     /// Their octets, in the same order.
     row: Row,
     index: Index,
+    forgotten: Forgotten,
 }
 
 impl Model for Window {
@@ -40,7 +43,7 @@ impl Model for Window {
 
     ghost Value = { Window };
 
-    ghost view = { λ w. record { within = w.within; came = laid w.frames.items w.row } };
+    ghost view = { λ w. record { within = w.within; came = laid w.frames.items w.row; forgotten = w.forgotten } };
 
     ghost invariant = { λ w. IsKept w.frames.items w.row (deque_capacity w.frames) w.index.gone w.index.passed w.index.latest.items };
 }
@@ -49,13 +52,14 @@ impl Window {
     /// A window that knows no frame yet, for echoes at most so many nanoseconds later. It takes the memory for all that it may
     /// keep, and `AllocError` says that there was none.
     pub fn new(alloc: Global, within: u64) -> Result<Window, AllocError>
-        ensures { IfOk result (λ window. window ≡ record { within = within; came = [] }) }
+        ensures { IfOk result (λ window. window ≡ new_window within) }
     {
         Ok(Window {
             within,
             frames: VecDeque::with_capacity(alloc, MOST_FRAMES)?,
             row: Row::new(alloc)?,
             index: Index::new(alloc)?,
+            forgotten: Forgotten::nothing(),
         })
     }
 
@@ -63,19 +67,42 @@ impl Window {
     /// its frame came in.
     pub fn meet(&mut self, met: &Record) -> Option<u8>
         ensures answer { result ≡ echo_of self.old.within self.old.came (told met.now) }
-        ensures came { self.new.came ≡ after self.old.within self.old.came (told met.now) }
-        ensures within { self.new.within ≡ self.old.within }
+        ensures behind { self.new ≡ behind_met self.old (told met.now) }
     {
         self.forget_past(met.moment);
         self.meet_recent(met)
+    }
+
+    /// Takes the next record as a frame that came in, whatever it may be an echo of, and forgets as [`Window::meet`] does.
+    pub fn enter(&mut self, met: &Record)
+        ensures { self.new ≡ behind_entered self.old (told met.now) }
+    {
+        self.forget_past(met.moment);
+        self.keep(met, bucket_of(met));
+    }
+
+    /// How many nanoseconds later an echo may be.
+    pub fn within(&self) -> u64
+        ensures { result ≡ self.now.within }
+    {
+        self.within
+    }
+
+    /// What it forgot for want of room, although an echo of it might still have come.
+    pub fn forgotten(&self) -> Forgotten
+        ensures { result ≡ self.now.forgotten }
+    {
+        self.forgotten
     }
 
     /// Takes the next record, where all frames that it may be an echo of are recent. Where it is an echo: the place where its
     /// frame came in.
     fn meet_recent(&mut self, met: &Record) -> Option<u8>
         ensures answer { result ≡ echo_of self.old.within self.old.came (told met.now) }
-        ensures came { self.new.came ≡ with_met self.old.within self.old.came (told met.now) }
-        ensures within { self.new.within ≡ self.old.within }
+        ensures behind { self.new ≡ record self.old {
+          came = with_met self.old.within self.old.came (told met.now);
+          forgotten = with_ages self.old.forgotten (lost self.old.within self.old.came (told met.now));
+        } }
     {
         let bucket = bucket_of(met);
         match self.search(met, bucket) {
@@ -88,6 +115,7 @@ impl Window {
     }
 
     /// Forgets the frames in front that came in too early for an echo at a moment.
+    #[inline(always)]
     fn forget_past(&mut self, moment: u64)
         ensures { self.new ≡ record self.old { came = recent self.old.within moment self.old.came } }
     {
@@ -133,19 +161,37 @@ impl Window {
         kept.place
     }
 
-    /// Keeps the frame of a record, which has this bucket, as the latest, and as many of the others as fit.
+    /// Keeps the frame of a record, which has this bucket, as the latest, and as many of the others as fit. The rest are counted,
+    /// and so is this one where it doesn't fit alone.
+    #[inline(always)]
     fn keep(&mut self, met: &Record, bucket: usize)
         requires bucket { bucket ≡ bucket_of (told met.now).frame }
         requires known { bucket < 16384 }
-        ensures { self.new ≡ record self.old { came = newest (self.old.came ++ first_met (told met.now) ∷ []) } }
+        ensures { self.new ≡ record self.old {
+          came = newest (self.old.came ++ first_met (told met.now) ∷ []);
+          forgotten = with_ages self.old.forgotten (crowded_by self.old.came (told met.now));
+        } }
     {
         while !self.has_room(met) {
             if self.is_empty() {
+                self.count_lost(0);
                 return;
             }
-            self.forget_first();
+            self.lose_first(met);
         }
         self.put(met, bucket);
+    }
+
+    /// Forgets the earliest frame, and counts it at its age when a record came.
+    fn lose_first(&mut self, met: &Record)
+        requires { 0 < length self.old.came }
+        ensures { self.new ≡ record self.old {
+          came = drop 1 self.old.came;
+          forgotten = with_age self.old.forgotten (met.now.moment - (slice_index_or self.old.came 0 (first_met (told met.now))).moment);
+        } }
+    {
+        self.count_lost(self.first_age(met));
+        self.forget_first();
     }
 
     /// Whether it knows no frame.
@@ -162,6 +208,21 @@ impl Window {
         fit(self.frames.len() + 1, self.row.count(), length_of(met))
     }
 
+    /// The age of the earliest frame when a record came.
+    fn first_age(&self, met: &Record) -> u64
+        requires { 0 < length self.now.came }
+        ensures { result ≡ met.now.moment - (slice_index_or self.now.came 0 (first_met (told met.now))).moment }
+    {
+        met.moment.saturating_sub(self.frames[0].moment)
+    }
+
+    /// Counts one more frame for which there is no room, at this age.
+    fn count_lost(&mut self, age: u64)
+        ensures { self.new ≡ record self.old { forgotten = with_age self.old.forgotten age } }
+    {
+        self.forgotten.add(age);
+    }
+
     /// Forgets the earliest frame.
     fn forget_first(&mut self)
         requires { 0 < length self.old.came }
@@ -174,6 +235,7 @@ impl Window {
     }
 
     /// Keeps the frame of a record, which has this bucket and for which there is room, as the latest.
+    #[inline(always)]
     fn put(&mut self, met: &Record, bucket: usize)
         requires bucket { bucket ≡ bucket_of (told met.now).frame }
         requires known { bucket < 16384 }

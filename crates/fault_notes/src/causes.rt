@@ -20,6 +20,7 @@ const PART_TEXTS: [OutputFile; 3] = [
 ];
 
 /// Tells why a line gave up. Where memory is refused for that, the fault alone is told.
+#[inline(never)]
 pub fn tell_causes<R: Files + AllocGlobal + Eprint>(
     rt: &R,
     line: &Line<'_>,
@@ -212,6 +213,7 @@ fn part_file(index: usize) -> OutputFile {
 }
 
 /// Tells which other outputs couldn't be written, and why. Where memory is refused for that, none is told.
+#[inline(never)]
 pub fn tell_failed_besides<R: Files + AllocGlobal + Eprint>(
     rt: &R,
     line: &Line<'_>,

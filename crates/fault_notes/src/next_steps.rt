@@ -8,6 +8,7 @@ use program_faults::{DigestsFailure, Failure, OneLine, OutputFile, PartFailure};
 use timeline::Tap;
 
 /// Tells what to do next about a fault, where there is one thing to do.
+#[inline(never)]
 pub fn tell_next_step<R: Eprint>(rt: &R, line: &Line<'_>, failure: &Failure<'_>) {
     match failure {
         Failure::Run(RunFault::PortCount) => tell_ports(rt, line),

@@ -11,6 +11,7 @@ use std::rt::Files;
 
 /// Tells of a line that is done which names of interfaces have none, and which outputs of an earlier run lie there. Where
 /// memory is refused for that, it isn't told.
+#[inline(never)]
 pub fn tell_notes<R: Files + AllocGlobal + Eprint>(rt: &R, line: &Line<'_>) {
     let _ = tell(rt, line);
 }

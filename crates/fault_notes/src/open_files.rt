@@ -19,6 +19,7 @@ struct Opening {
 
 /// Tells how many files a run or a merge opens at once, where one couldn't be opened since too many were open. Where memory is
 /// refused for that, it isn't told.
+#[inline(never)]
 pub fn tell_open_files<R: Files + AllocGlobal + Eprint>(
     rt: &R,
     line: &Line<'_>,

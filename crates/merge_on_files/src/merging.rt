@@ -67,14 +67,7 @@ pub fn merge<'a, R: Files + AllocGlobal>(
     let opened = open_outputs(rt, out, false, count)?;
     drop_part(rt, out)?;
     let mut outputs = opened.emptied(rt.alloc())?;
-    let merged = merge_streams(
-        parts.as_mut_slice(),
-        outputs.ports.as_mut_slice(),
-        &mut outputs.underlay,
-        &mut outputs.decisions,
-        waits,
-    );
-    match merged {
+    match merge_streams(parts.as_mut_slice(), &mut outputs.files, waits) {
         Ok(()) => match outputs.finish(rt.alloc(), failed) {
             Ok(_) => Ok(told),
             Err(failure) => Err(failure),

@@ -20,6 +20,7 @@ const KEPT: [OutputFile; 2] = [OutputFile::Summary, OutputFile::Tables];
 
 /// Makes a page of what a run wrote into a folder. Where the folder has no decision lines, one of them is none, or the page is one
 /// of the files that are read, nothing is made or written.
+#[inline(never)]
 pub fn make_page<'a, R: Files + AllocGlobal>(
     rt: &R,
     folder: &'a str,

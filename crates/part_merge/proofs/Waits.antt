@@ -10,6 +10,7 @@ use Rattle.pcap.specs.Sink.{Drain}
 use Rattle.pcap.specs.Source.{MatchRead as MatchSource, Stream, holds_next}
 use Rattle.pcap.specs.declared.stream.fault.SourceFault.{SourceFault}
 use Rattle.pcap.specs.declared.stream.fault.SourceFault.TheVariants as source
+use Rattle.timeline.specs.Drains.{PortsOut}
 use Rattle.timeline.specs.declared.source.Tap.{Tap}
 use Rattle.timeline.specs.declared.source.Tap.TheVariants.{Port, Underlay}
 use Rattle.line_stream.specs.declared.fault.LinesFault.{LinesFault}
@@ -20,7 +21,7 @@ use Rattle.part_merge.specs.Copied.{stop_by}
 use Rattle.part_merge.specs.Left.{AreAdded, AreKept, IsTap, UnlessDevice, of_tap}
 use Rattle.part_merge.specs.Moved.{Moves, stopped_at}
 use Rattle.part_merge.specs.Numbered.{AddsCuts, AddsLine}
-use Rattle.part_merge.specs.Waiting.{AllOut, AreOutAtRead, AtRead, CapturesOut, IsOutAtRead, PortsOut, TakesRead}
+use Rattle.part_merge.specs.Waiting.{AllOut, AreOutAtRead, AtRead, CapturesOut, IsOutAtRead, TakesRead}
 use Rattle.part_merge.specs.declared.capture.Stop.{Stop}
 use Rattle.part_merge.specs.declared.capture.Stop.TheVariants as stops
 use Rattle.part_merge.specs.declared.fault.MergeFault.{MergeFault}

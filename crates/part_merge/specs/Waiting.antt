@@ -2,19 +2,16 @@
 --     AllOut      nothing that was written is held back
 --     TakesRead      to copy the next record of a capture takes a read
 --     IsOutAtRead      where a read that may wait failed, all was out when it was made
-use Rattle.std.specs.Prelude.{◌≡◌, ◌<◌, ⊤, ℕ, Bool, true, false, List, [], length, slice_index_or, Result, Ok, Err}
+use Rattle.std.specs.Prelude.{◌≡◌, ⊤, ℕ, Bool, true, false, List, [], length, Result, Ok, Err}
 use Rattle.pcap.specs.Sink.{Drain}
 use Rattle.pcap.specs.Source.{Stream, holds_next}
+use Rattle.timeline.specs.Drains.{PortsOut}
 use Rattle.timeline.specs.declared.source.Tap.{Tap}
 use Rattle.part_merge.specs.Blame.{MatchRead}
 use Rattle.part_merge.specs.Left.{IsTap, of_tap}
 use Rattle.part_merge.specs.declared.capture.Stop.{Stop}
 use Rattle.part_merge.specs.declared.capture.Stop.TheVariants as stops
 use Rattle.part_merge.specs.declared.fault.MergeFault.{MergeFault}
-
--- the captures of the ports hold nothing back; no merge has more than 255
-abbrev pub PortsOut : List Drain → Type 0
-PortsOut ports = (x : Drain) (k : ℕ) → k < length ports → k < 255 → (slice_index_or ports k x).held ≡ []
 
 -- no capture holds anything back
 pub record CapturesOut (sinks : List Drain) (underlay_sink : Drain) : Type 0 where

@@ -10,9 +10,10 @@
 ghost use Rattle.std.specs.Prelude.{◌≡◌, ℕ, List, [], OnOk, true};
 ghost use Rattle.std.specs.Io.KnownBytes.{Keeps};
 ghost use Rattle.pcap.specs.Sink.{Drain};
+ghost use Rattle.timeline.specs.Drains.{PortsOut};
 ghost use Rattle.part_merge.specs.Blame.{BlamesNoRead, CapturesWrite, LinesWrite, WritesWith};
 ghost use Rattle.part_merge.specs.Left.{AreKept, UnlessDevice};
-ghost use Rattle.part_merge.specs.Waiting.{AllOut, CapturesOut, PortsOut};
+ghost use Rattle.part_merge.specs.Waiting.{AllOut, CapturesOut};
 
 use crate::fault::{MergeFault, Target};
 use pcap::stream::{Output, Sink};

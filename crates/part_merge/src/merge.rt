@@ -18,7 +18,7 @@ use crate::first::find_first;
 use crate::hand_on::{hand_on_before, hand_on_captures_before};
 use crate::part::Part;
 use pcap::stream::{Input, Output, Sink};
-use timeline::Tap;
+use timeline::{Outputs, Tap};
 
 /// How many octets the lines of a run's cut captures have at most: 256 lines of 30.
 const MOST_OF_CUTS: usize = 7_680;
@@ -44,33 +44,37 @@ const MOST_OF_CUTS: usize = 7_680;
 /// its records, nor that the last events are missing, nor that a part is of another run.
 pub fn merge_streams<R: Input, W: Output>(
     parts: &mut [Part<R>],
-    port_sinks: &mut [Sink<W>],
-    underlay_sink: &mut Sink<W>,
-    decisions: &mut W,
+    outputs: &mut Outputs<W>,
     may_wait: bool,
 ) -> Result<(), MergeFault>
-    requires few { length port_sinks.old ≤ 255 }
-    ensures merged { (pieces : List (List Piece)) (cuts : List (List Cut)) → AreParts (length port_sinks.old) pieces cuts parts.old
+    requires few { length outputs.old.ports ≤ 255 }
+    ensures merged { (pieces : List (List Piece)) (cuts : List (List Cut)) → AreParts (length outputs.old.ports) pieces cuts parts.old
         → UnlessMissing result (merged pieces)
-        (Adds (texts_of_pieces (length port_sinks.old) (merged pieces) (side_by_side cuts)) port_sinks.old underlay_sink.old
-        (W.written decisions.old) port_sinks.new underlay_sink.new (W.written decisions.new)) }
-    ensures numbered { OnOk result (AddsNumbered (W.written decisions.old) (W.written decisions.new)) }
+        (Adds (texts_of_pieces (length outputs.old.ports) (merged pieces) (side_by_side cuts)) outputs.old.ports outputs.old.underlay
+        outputs.old.decisions.written outputs.new.ports outputs.new.underlay outputs.new.decisions.written) }
+    ensures numbered { OnOk result (AddsNumbered outputs.old.decisions.written outputs.new.decisions.written) }
     ensures read { OnOk result (AreRead parts.new) }
     ensures reads { ReadsWith parts.old parts.new result }
-    ensures writes { WritesWith port_sinks.old underlay_sink.old (W.failures decisions.old) port_sinks.new underlay_sink.new
-        (W.failures decisions.new) result }
-    ensures waits { IsOutAtRead may_wait port_sinks.new underlay_sink.new (W.held decisions.new) result }
+    ensures writes { WritesWith outputs.old.ports outputs.old.underlay outputs.old.decisions.failures outputs.new.ports
+        outputs.new.underlay outputs.new.decisions.failures result }
+    ensures waits { IsOutAtRead may_wait outputs.new.ports outputs.new.underlay outputs.new.decisions.held result }
 {
-    if let Err(fault) = see_counts(parts, port_sinks.len()) {
+    let Outputs {
+        ports,
+        underlay,
+        decisions,
+    } = outputs;
+    let ports = ports.as_mut_slice();
+    if let Err(fault) = see_counts(parts, ports.len()) {
         return Err(fault);
     }
-    if let Err(fault) = begin_all(port_sinks, underlay_sink) {
+    if let Err(fault) = begin_all(ports, underlay) {
         return Err(fault);
     }
-    if let Err(fault) = put_events(parts, port_sinks, underlay_sink, decisions, may_wait) {
+    if let Err(fault) = put_events(parts, ports, underlay, decisions, may_wait) {
         return Err(fault);
     }
-    finish_all(parts, port_sinks.len(), decisions, may_wait)
+    finish_all(parts, ports.len(), decisions, may_wait)
 }
 
 /// Sees that each part has as many captures as the outputs.

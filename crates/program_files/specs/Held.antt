@@ -5,8 +5,9 @@
 use Rattle.std.specs.Prelude.{◌≡◌, ℕ, List, map, All, Option}
 use Rattle.std.specs.List.{AllZip}
 use Rattle.std.specs.Io.KnownBytes.{Keeps}
-use Rattle.pcap.specs.Block.{Block, told}
+use Rattle.pcap.specs.Block.{Block}
 use Rattle.pcap.specs.Sink.{Drain}
+use Rattle.timeline.specs.Drains.{Drains}
 
 -- the octets of each file, where it tells them
 pub record Held : Type 0 where
@@ -15,11 +16,11 @@ pub record Held : Type 0 where
   pub decisions : Option (List ℕ)
 
 -- all that was written to the outputs of a run, with what stood there before: what the files have, and then the blocks
-abbrev pub written : List Drain → Drain → Block → Held
-written ports underlay decisions = record {
-  ports = map (λ (d : Drain). d.written) ports;
-  underlay = underlay.written;
-  decisions = told decisions;
+abbrev pub written : Drains → Held
+written outputs = record {
+  ports = map (λ (d : Drain). d.written) outputs.ports;
+  underlay = outputs.underlay.written;
+  decisions = outputs.decisions.written;
 }
 
 -- what the files have of it

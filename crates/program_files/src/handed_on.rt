@@ -10,13 +10,14 @@ ghost use Rattle.pcap.specs.Sink.{Drain};
 ghost use Rattle.program_files.specs.Held.{AreHandedOn, AreHeld, IsHeld, handed_on, written};
 
 use crate::failed_outputs::{FailedOutput, FailedOutputs};
-use crate::outputs::{OutputSums, Outputs, PartRecordFile, Written};
+use crate::outputs::{OutputFiles, OutputSums, PartRecordFile, Written};
 use arrayvec::ArrayVec;
 use octet_sums::fletcher::OctetSum;
 use pcap::stream::Sink;
 use program_faults::{Failure, OutputFile};
 use std::alloc::{AllocError, Global};
 use std::io::Write;
+use timeline::Outputs;
 
 /// What a run or a merge wrote: no block holds anything back.
 #[derive(Drop)]
@@ -56,7 +57,7 @@ fn sum_of<F: Write + Drop>(written: Written<F>) -> OctetSum {
     written.into_inner().sum().unwrap_or(OctetSum::new())
 }
 
-impl<F: Write + Drop> Outputs<F> {
+impl<F: Write + Drop> OutputFiles<F> {
     /// Hands on what the blocks hold. The first output that can't be written is why the program gives up, and all of them are
     /// noted.
     pub fn finish(
@@ -64,20 +65,20 @@ impl<F: Write + Drop> Outputs<F> {
         alloc: Global,
         failed: &mut FailedOutputs,
     ) -> Result<HandedOn<F>, Failure<'static>>
-        ensures count { IfOk result (λ files. length files.ports.items ≡ length self.ports.items) }
+        ensures count { IfOk result (λ files. length files.ports.items ≡ length self.files.ports) }
         ensures ports { IfOk result (λ files. All (λ (b : Block). b.held ≡ []) files.ports.items) }
         ensures underlay { IfOk result (λ files. files.underlay.held ≡ []) }
         ensures decisions { IfOk result (λ files. files.decisions.held ≡ []) }
-        ensures kept { IfOk result (λ files. AreHandedOn (written self.ports.items self.underlay self.decisions)
+        ensures kept { IfOk result (λ files. AreHandedOn (written self.files)
             (handed_on files.ports.items files.underlay files.decisions)) }
         ensures in_files { IfOk result (λ files. AreHeld F.contents (handed_on files.ports.items files.underlay files.decisions)) }
     {
+        let OutputFiles { files, part_file } = self;
         let Outputs {
             ports,
             underlay,
             decisions,
-            part_file,
-        } = self;
+        } = files;
         let mut underlay = underlay.into_inner();
         let mut decisions = decisions;
         let ports = hand_on_ports(alloc, ports, failed);

@@ -50,7 +50,7 @@ pub use names::{Names, RunInput, file_of, is_read_once, is_regular_file, is_same
 pub use open_files::{files_at_once, has_room, is_refused, see_room};
 pub use output_device::OutputDevice;
 pub use outputs::{
-    Destination, Opened, OutputSums, Outputs, PartRecordFile, Written, open_outputs, path_of,
+    Destination, Opened, OutputFiles, OutputSums, PartRecordFile, Written, open_outputs, path_of,
     see_objects, spare_inputs,
 };
 pub use part_inputs::{

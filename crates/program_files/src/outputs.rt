@@ -19,6 +19,7 @@ use std::fs::{self, OpenFile, OpenOptions};
 use std::io::{self, Write};
 use std::path::{Path, PathBuf};
 use std::rt::Files;
+use timeline::Outputs;
 
 /// How many octets of a capture are written at once.
 const BLOCK: usize = 65_536;
@@ -58,10 +59,8 @@ pub struct PartRecordFile<F: Drop> {
 /// What a run writes: the ports' captures rising, the underlay's, and the decision lines. A part of a run also says what it
 /// was made from.
 #[derive(Drop)]
-pub struct Outputs<F: Write + Drop> {
-    pub ports: Vec<Sink<Written<F>>>,
-    pub underlay: Sink<Written<F>>,
-    pub decisions: Written<F>,
+pub struct OutputFiles<F: Write + Drop> {
+    pub files: Outputs<Written<F>>,
     /// The file in which a part is to say what it was made from.
     pub part_file: Option<F>,
 }
@@ -192,9 +191,9 @@ fn open<R: Files + AllocGlobal>(
 
 impl<F: Write + OpenFile + Drop> Opened<F> {
     /// Empties the files. They are written in blocks: captures of 64 KiB, and decision lines of 128 KiB.
-    pub fn emptied(self, alloc: Global) -> Result<Outputs<F>, Failure<'static>>
-        ensures count { IfOk result (λ outputs. length outputs.ports.items ≡ length self.ports.items) }
-        ensures in_files { IfOk result (λ outputs. AreHeld F.contents (written outputs.ports.items outputs.underlay outputs.decisions)) }
+    pub fn emptied(self, alloc: Global) -> Result<OutputFiles<F>, Failure<'static>>
+        ensures count { IfOk result (λ outputs. length outputs.files.ports ≡ length self.ports.items) }
+        ensures in_files { IfOk result (λ outputs. AreHeld F.contents (written outputs.files)) }
     {
         let Opened {
             ports: files,
@@ -231,12 +230,14 @@ impl<F: Write + OpenFile + Drop> Opened<F> {
             LINES_BLOCK,
             is_part,
         ) {
-            Ok(decisions) => Ok(Outputs {
-                ports,
-                underlay,
-                decisions,
-                part_file,
-            }),
+            Ok(decisions) => {
+                let files = Outputs {
+                    ports,
+                    underlay,
+                    decisions,
+                };
+                Ok(OutputFiles { files, part_file })
+            }
             Err(failure) => Err(failure),
         }
     }

@@ -1,12 +1,13 @@
 -- Records that come in turn.
-use Rattle.std.proofs.Common.{◌≡◌, ℕ, ◌+◌, ◌<◌, ◌≤◌, Bool, true, false, nat_lt, List, [], ◌∷◌, ◌++◌, length, map, if◌then◌else◌, refl, sym, ap, ◌∙◌, subst, arith, append_assoc, length-append, Option, Some, None, ◌-◌}
+use Rattle.std.proofs.Common.{◌≡◌, ℕ, ◌+◌, ◌<◌, ◌≤◌, ◌==◌, Bool, true, false, nat_lt, List, [], ◌∷◌, ◌++◌, length, map, if◌then◌else◌, refl, sym, ap, ◌∙◌, subst, arith, append_assoc, length-append, Option, Some, None, ◌-◌}
 use Rattle.std.proofs.lemmas.List.{append-nil}
 use Rattle.std.proofs.lemmas.Bool.{lt-ltb, ltb-true}
-use Rattle.record_match.specs.Compared.{AreBefore, Comparison, IsCompared, octets_in}
+use Rattle.record_match.specs.Compared.{AreBefore, Comparison, IsCompared, cut_in, octets_in}
 use Rattle.record_match.specs.Laws.{AreOver}
 use Rattle.record_match.specs.Settled.{Fact, Both, ReceivedAlone, SentAlone, alone_from, alone_of, fact_by, gone_alone, held_alone, of_received, of_sent, over_alone, sent_moment, told_from}
 use Rattle.record_match.specs.Match.{Record, Sent, as_sent, is_known, is_met_by, matched, met, met_all, received_count}
 use Rattle.record_match.specs.Window.{Window, at_moment, has_room, is_over, sent_to, still_held, with_received, with_sent}
+use Rattle.record_match.specs.declared.cut.Cut.{Cut}
 use Rattle.record_match.proofs.Meeting.{held-enough, held_is_enough, met-known, met-unknown, later-not, over-not}
 
 -- ---- what is over stays so
@@ -123,7 +124,7 @@ alone-of-sent n (s ∷ ss) = by s.is_taken refl (alone-of-sent (n + 1) ss)
     by : (q : Bool) → s.is_taken ≡ q → IsOfSent (alone_from (n + 1) ss) → IsOfSent (alone_from n (s ∷ ss))
     by true h rest = record { sent = rw h rest.sent; none = rw h rest.none }
     by false h rest = record {
-      sent = rw h (ap (λ (l : List Fact). SentAlone n (record { moment = s.moment; octets = s.octets }) ∷ l) rest.sent);
+      sent = rw h (ap (λ (l : List Fact). SentAlone n (record { moment = s.moment; octets = s.octets; missing = s.missing }) ∷ l) rest.sent);
       none = rw h rest.none;
     }
 
@@ -233,10 +234,24 @@ octets-append : (xs ys : List Record) → octets_in (xs ++ ys) ≡ octets_in xs 
 octets-append [] ys = omega arith
 octets-append (x ∷ xs) ys = omega (arith, octets-append xs ys)
 
+-- how many are cut with one more
+abbrev pub cut-sent : Cut → ℕ → Cut
+cut-sent c n = record { sent = c.sent + n; received = c.received }
+
+abbrev pub cut-received : Cut → ℕ → Cut
+cut-received c n = record { sent = c.sent; received = c.received + n }
+
+abbrev pub one-cut : Record → ℕ
+one-cut r = if r.missing == 0 then 0 else 1
+
+cut-one : (rs : List Record) (r : Record) → cut_in (rs ++ r ∷ []) ≡ cut_in rs + one-cut r
+cut-one [] r = omega arith
+cut-one (x ∷ rs) r = omega (arith, cut-one rs r)
+
 pub one-sent : (c : Comparison) (sent received : List Record) (now : ℕ) (r : Record) (w : Window) → IsCompared c sent received now → now ≤ r.moment → AreBefore r.moment received → w ≡ with_sent r (at_moment r.moment c.window)
-    → IsCompared (record { window = w; sent = c.sent + 1; received = c.received; both = c.both; log = c.log ++ gone_alone r.moment c.window }) (sent ++ r ∷ []) received r.moment
+    → IsCompared (record { window = w; sent = c.sent + 1; received = c.received; both = c.both; cut = cut-sent c.cut (one-cut r); log = c.log ++ gone_alone r.moment c.window }) (sent ++ r ∷ []) received r.moment
 one-sent c sent received now r w h le before is =
-    subst (λ (x : Window). IsCompared (record { window = x; sent = c.sent + 1; received = c.received; both = c.both; log = c.log ++ gone_alone r.moment c.window }) (sent ++ r ∷ []) received r.moment) (sym is)
+    subst (λ (x : Window). IsCompared (record { window = x; sent = c.sent + 1; received = c.received; both = c.both; cut = cut-sent c.cut (one-cut r); log = c.log ++ gone_alone r.moment c.window }) (sent ++ r ∷ []) received r.moment) (sym is)
     (record {
       over = over-now c sent received now r.moment h le;
       whole = matched-sent c.window.within sent received r before
@@ -245,6 +260,7 @@ one-sent c sent received now r w h le before is =
       are_over = over-now-is c sent received now r.moment h le;
       sent_is = omega (arith, h.sent_is, length-append sent (r ∷ []));
       received_is = h.received_is;
+      cut_is = (ap (λ (n : ℕ). n + one-cut r) h.cut_is.0 ∙ sym (cut-one sent r), h.cut_is.1);
       records_is = omega (arith, h.records_is, length-append sent (r ∷ []));
       octets_is = omega (arith, h.octets_is, octets-append sent (r ∷ []));
       gone_is = omega (arith, gone-now-is c sent received now r.moment h le, length-append (still_held c.window.within r.moment c.window.held) (as_sent r ∷ []));
@@ -256,7 +272,7 @@ one-sent c sent received now r w h le before is =
 
 pub one-received : (c : Comparison) (sent received : List Record) (now : ℕ) (r : Record) (w : Window) (q : Bool) → IsCompared c sent received now → now ≤ r.moment
     → q ≡ is_known c.window.within r (at_moment r.moment c.window).held → w ≡ with_received r (at_moment r.moment c.window)
-    → IsCompared (record { window = w; sent = c.sent; received = c.received + 1; both = c.both + (if q then 1 else 0); log = c.log ++ (gone_alone r.moment c.window ++ fact_by (c.received + 1) r (sent_moment c.window.within r (at_moment r.moment c.window).held) ∷ []) }) sent (received ++ r ∷ []) r.moment
+    → IsCompared (record { window = w; sent = c.sent; received = c.received + 1; both = c.both + (if q then 1 else 0); cut = cut-received c.cut (one-cut r); log = c.log ++ (gone_alone r.moment c.window ++ fact_by (c.received + 1) r (sent_moment c.window.within r (at_moment r.moment c.window).held) ∷ []) }) sent (received ++ r ∷ []) r.moment
 one-received c sent received now r w q h le known is =
     let over = over-now c sent received now r.moment h le in
     let are_over = over-now-is c sent received now r.moment h le in
@@ -275,13 +291,14 @@ one-received c sent received now r w q h le known is =
     let fact_is : fact ≡ fact_by (1 + length received) r (sent_moment c.window.within r (matched c.window.within sent received)) =
     ap (λ (k : ℕ). fact_by k r m) number ∙ ap (λ (o : Option ℕ). fact_by (1 + length received) r o) moment_is in
     let count = one-known c.window.within r (matched c.window.within sent received) q told in
-    subst (λ (x : Window). IsCompared (record { window = x; sent = c.sent; received = c.received + 1; both = c.both + (if q then 1 else 0); log = c.log ++ (gone_alone r.moment c.window ++ fact_by (c.received + 1) r (sent_moment c.window.within r (at_moment r.moment c.window).held) ∷ []) }) sent (received ++ r ∷ []) r.moment) (sym is)
+    subst (λ (x : Window). IsCompared (record { window = x; sent = c.sent; received = c.received + 1; both = c.both + (if q then 1 else 0); cut = cut-received c.cut (one-cut r); log = c.log ++ (gone_alone r.moment c.window ++ fact_by (c.received + 1) r (sent_moment c.window.within r (at_moment r.moment c.window).held) ∷ []) }) sent (received ++ r ∷ []) r.moment) (sym is)
     (record {
       over = over;
       whole = next ∙ ap (λ (l : List Sent). met c.window.within r l) all ∙ met-held c.window.within r over held are_over;
       are_over = are_over;
       sent_is = h.sent_is;
       received_is = omega (arith, h.received_is, length-append received (r ∷ []));
+      cut_is = (h.cut_is.0, ap (λ (n : ℕ). n + one-cut r) h.cut_is.1 ∙ sym (cut-one received r));
       records_is = h.records_is;
       octets_is = h.octets_is;
       gone_is = omega (arith, gone-now-is c sent received now r.moment h le, met-length c.window.within r held);
@@ -303,15 +320,16 @@ one-received c sent received now r w q h le known is =
 
 -- one came for which there was no room
 pub none-sent : (c : Comparison) (sent received : List Record) (now : ℕ) (r : Record) (w : Window) → IsCompared c sent received now → now ≤ r.moment → w ≡ at_moment r.moment c.window
-    → IsCompared (record { window = w; sent = c.sent; received = c.received; both = c.both; log = c.log ++ gone_alone r.moment c.window }) sent received r.moment
+    → IsCompared (record { window = w; sent = c.sent; received = c.received; both = c.both; cut = cut-sent c.cut 0; log = c.log ++ gone_alone r.moment c.window }) sent received r.moment
 none-sent c sent received now r w h le is =
-    subst (λ (x : Window). IsCompared (record { window = x; sent = c.sent; received = c.received; both = c.both; log = c.log ++ gone_alone r.moment c.window }) sent received r.moment) (sym is)
+    subst (λ (x : Window). IsCompared (record { window = x; sent = c.sent; received = c.received; both = c.both; cut = cut-sent c.cut 0; log = c.log ++ gone_alone r.moment c.window }) sent received r.moment) (sym is)
     (record {
       over = over-now c sent received now r.moment h le;
       whole = whole-now c sent received now r.moment h le;
       are_over = over-now-is c sent received now r.moment h le;
       sent_is = h.sent_is;
       received_is = h.received_is;
+      cut_is = (omega (arith, h.cut_is.0), h.cut_is.1);
       records_is = h.records_is;
       octets_is = h.octets_is;
       gone_is = gone-now-is c sent received now r.moment h le;

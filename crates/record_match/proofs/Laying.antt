@@ -30,16 +30,16 @@ laid-put at (j ∷ ks) row k text h l =
     let rest = laid-put (at + j.length) ks (drop j.length row) k text h.1 l in
     rw (take-append-le j.length row text within, drop-append-le j.length row text within) (ap (λ cs. sent_of j (take j.length row) ∷ cs) rest)
 
-pub is_laid-put : (at : ℕ) (ks : List Kept) (row : List ℕ) (k : Kept) (text : List ℕ) → IsLaid at ks row → k.at ≡ at + length row → k.bucket ≡ bucket_of text → k.bucket < 262144 → k.length ≡ length text → IsLaid at (ks ++ k ∷ []) (row ++ text)
+pub is_laid-put : (at : ℕ) (ks : List Kept) (row : List ℕ) (k : Kept) (text : List ℕ) → IsLaid at ks row → k.at ≡ at + length row → k.bucket ≡ bucket_of k.missing text → k.bucket < 262144 → k.length ≡ length text → IsLaid at (ks ++ k ∷ []) (row ++ text)
 is_laid-put at [] [] k text h a b f l =
     let all : take k.length text ≡ text = take_all k.length text (omega (arith, l)) in
-    (record { at_is = omega (arith, a); bucket_is = b ∙ ap bucket_of (sym all); few = f; within = omega (arith, l) }, grind (arith, common_steps))
+    (record { at_is = omega (arith, a); bucket_is = b ∙ ap (bucket_of k.missing) (sym all); few = f; within = omega (arith, l) }, grind (arith, common_steps))
 is_laid-put at [] (x ∷ row) k text h a b f l = absurd cc
 is_laid-put at (j ∷ ks) row k text h a b f l =
     let within = h.0.within in
     let own = h.0.bucket_is in
     let rest = is_laid-put (at + j.length) ks (drop j.length row) k text h.1 (omega (arith, a, within, length-drop j.length row)) b f l in (
-      record { at_is = h.0.at_is; bucket_is = own ∙ ap bucket_of (sym (take-append-le j.length row text within)); few = h.0.few; within = omega (arith, within, length-append row text) },
+      record { at_is = h.0.at_is; bucket_is = own ∙ ap (bucket_of j.missing) (sym (take-append-le j.length row text within)); few = h.0.few; within = omega (arith, within, length-append row text) },
       subst (λ r. IsLaid (at + j.length) (ks ++ k ∷ []) r) (sym (drop-append-le j.length row text within)) rest,
     )
 
@@ -49,15 +49,15 @@ laid-set [] row i k d e h l = absurd (omega (arith, h))
 laid-set (j ∷ ks) row zero k d e h l = grind arith
 laid-set (j ∷ ks) row (suc i) k d e h l = ap (λ cs. sent_of j (take j.length row) ∷ cs) (laid-set ks (drop j.length row) i k d e (omega (arith, h)) l)
 
-pub is_laid-set : (at : ℕ) (ks : List Kept) (row : List ℕ) (i : ℕ) (k d : Kept) → IsLaid at ks row → i < length ks → k.at ≡ (get_or ks i d).at → k.bucket ≡ (get_or ks i d).bucket → k.length ≡ (get_or ks i d).length → IsLaid at (set ks i k) row
-is_laid-set at [] row i k d h lt a b l = absurd (omega (arith, lt))
-is_laid-set at (j ∷ ks) row zero k d h lt a b l =
+pub is_laid-set : (at : ℕ) (ks : List Kept) (row : List ℕ) (i : ℕ) (k d : Kept) → IsLaid at ks row → i < length ks → k.at ≡ (get_or ks i d).at → k.bucket ≡ (get_or ks i d).bucket → k.missing ≡ (get_or ks i d).missing → k.length ≡ (get_or ks i d).length → IsLaid at (set ks i k) row
+is_laid-set at [] row i k d h lt a b m l = absurd (omega (arith, lt))
+is_laid-set at (j ∷ ks) row zero k d h lt a b m l =
     let within = h.0.within in
     let rest = h.1 in (
-      record { at_is = a ∙ h.0.at_is; bucket_is = b ∙ h.0.bucket_is ∙ ap (λ n. bucket_of (take n row)) (sym l); few = subst (λ n. n < 262144) (sym b) h.0.few; within = omega (arith, within, l) },
+      record { at_is = a ∙ h.0.at_is; bucket_is = b ∙ h.0.bucket_is ∙ ap (λ n. bucket_of n (take j.length row)) (sym m) ∙ ap (λ n. bucket_of k.missing (take n row)) (sym l); few = subst (λ n. n < 262144) (sym b) h.0.few; within = omega (arith, within, l) },
       subst (λ n. IsLaid (at + n) ks (drop n row)) (sym l) rest,
     )
-is_laid-set at (j ∷ ks) row (suc i) k d h lt a b l = (h.0, is_laid-set (at + j.length) ks (drop j.length row) i k d h.1 (omega (arith, lt)) a b l)
+is_laid-set at (j ∷ ks) row (suc i) k d h lt a b m l = (h.0, is_laid-set (at + j.length) ks (drop j.length row) i k d h.1 (omega (arith, lt)) a b m l)
 
 -- where the octets of one stand
 pub begins : (at : ℕ) (ks : List Kept) (row : List ℕ) (i : ℕ) (d : Kept) → IsLaid at ks row → i < length ks → (at ≤ (get_or ks i d).at) × ((get_or ks i d).at + (get_or ks i d).length ≤ at + length row)
@@ -87,7 +87,7 @@ laid-at at (j ∷ ks) row (suc i) d e h lt =
     twice (suc m) n (x ∷ xs) = let e : suc (m + n) ≡ suc m + n = omega arith in twice m n xs ∙ ap (λ (k : ℕ). drop k (x ∷ xs)) e
 
 -- the bucket of one is that of its octets
-pub bucket-at : (at : ℕ) (ks : List Kept) (row : List ℕ) (i : ℕ) (d : Kept) (e : Sent) → IsLaid at ks row → i < length ks → (get_or ks i d).bucket ≡ bucket_of (get_or (laid ks row) i e).octets
+pub bucket-at : (at : ℕ) (ks : List Kept) (row : List ℕ) (i : ℕ) (d : Kept) (e : Sent) → IsLaid at ks row → i < length ks → (get_or ks i d).bucket ≡ bucket_of (get_or (laid ks row) i e).missing (get_or (laid ks row) i e).octets
 bucket-at at [] row i d e h lt = absurd (omega (arith, lt))
 bucket-at at (j ∷ ks) row zero d e h lt = h.0.bucket_is
 bucket-at at (j ∷ ks) row (suc i) d e h lt = bucket-at (at + j.length) ks (drop j.length row) i d e h.1 (omega (arith, lt))

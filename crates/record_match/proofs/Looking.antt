@@ -62,7 +62,7 @@ module _ {W : Type 0} (sees : W → Fact → W → Type 0) where
 
   -- the first that a window keeps is told
   pub tells-first : (old new : W) (within gone passed : ℕ) (ks : List Kept) (row : List ℕ) (w : Window) (k : Kept) (octets : List ℕ) → ◌≡◌ {A = Window} (record { within = within; records = gone + length ks; octets = passed + length row; held = laid ks row }) w → 0 < length w.held → k ≡ get_or ks 0 k → k.is_taken ≡ false
-      → octets ≡ take k.length row → sees old (SentAlone (gone + 1) (record { moment = k.moment; octets = octets })) new → FoldsTo sees old (first_alone w.records w.held) new
+      → octets ≡ take k.length row → sees old (SentAlone (gone + 1) (record { moment = k.moment; octets = octets; missing = k.missing })) new → FoldsTo sees old (first_alone w.records w.held) new
   tells-first old new within gone passed ks row w k octets is some here taken text told =
       subst (λ (y : Window). FoldsTo sees old (first_alone y.records y.held) new) is (by ks (subst (λ (y : Window). 0 < length y.held) (sym is) some) here)
     where
@@ -71,12 +71,12 @@ module _ {W : Type 0} (sees : W → Fact → W → Type 0) where
       by (x ∷ ks) some here =
           let number : gone + 1 ≡ gone + length (x ∷ ks) - length (laid ks (drop x.length row)) = omega (arith, laid-length ks (drop x.length row)) in
           let own : x.is_taken ≡ false = ap (λ (y : Kept). y.is_taken) (sym here) ∙ taken in
-          let record_is : ◌≡◌ {A = Record} (record { moment = k.moment; octets = octets }) (record { moment = x.moment; octets = take x.length row }) =
+          let record_is : ◌≡◌ {A = Record} (record { moment = k.moment; octets = octets; missing = k.missing }) (record { moment = x.moment; octets = take x.length row; missing = x.missing }) =
           ap (λ (l : List ℕ). record-of k l) text ∙ ap (λ (y : Kept). record-of y (take y.length row)) here in
-          let one : sees old (SentAlone (gone + length (x ∷ ks) - length (laid ks (drop x.length row))) (record { moment = x.moment; octets = take x.length row })) new =
-          subst (λ (n : ℕ). sees old (SentAlone n (record { moment = x.moment; octets = take x.length row })) new) number
+          let one : sees old (SentAlone (gone + length (x ∷ ks) - length (laid ks (drop x.length row))) (record { moment = x.moment; octets = take x.length row; missing = x.missing })) new =
+          subst (λ (n : ℕ). sees old (SentAlone n (record { moment = x.moment; octets = take x.length row; missing = x.missing })) new) number
           (subst (λ (r : Record). sees old (SentAlone (gone + 1) r) new) record_is told) in
           rw own (new, one, refl)
         where
           record-of : Kept → List ℕ → Record
-          record-of k l = record { moment = k.moment; octets = l }
+          record-of k l = record { moment = k.moment; octets = l; missing = k.missing }

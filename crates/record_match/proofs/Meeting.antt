@@ -1,6 +1,6 @@
 -- Records that are received.
 use Rattle.std.proofs.Common.{◌≡◌, ℕ, zero, suc, ◌+◌, ◌<◌, Bool, true, false, not, ◌&&◌, ◌||◌, nat_le, nat_lt, List, [], ◌∷◌, ◌++◌, length, map, get_or, set, refl, sym, ap, ◌∙◌, arith, Option, Some, None}
-use Rattle.std.proofs.lemmas.Bool.{le-leb, lt-leb, ltb-true}
+use Rattle.std.proofs.lemmas.Bool.{eq-eqb, le-leb, lt-leb, ltb-true}
 use Rattle.wire.proofs.OctetsLemmas.{is_same-refl}
 use Rattle.record_match.specs.Laws.{AreLater, EachIsTold, HeldIsEnough, ItselfIsWhole, NoneIsLeft, is_any_known}
 use Rattle.record_match.specs.Match.{Record, Sent, as_sent, is_known, is_met_by, is_within, lonely_among, met, met_all, received_count, taken}
@@ -56,7 +56,7 @@ met-none within r (s ∷ sent) d none =
 -- ---- a list with itself
 
 now-met : (within : ℕ) (r : Record) → is_met_by within r (as_sent r) ≡ true
-now-met within r = rw (is_same-refl r.octets, le-leb r.moment r.moment (omega arith), le-leb r.moment (r.moment + within) (omega arith)) refl
+now-met within r = rw (is_same-refl r.octets, eq-eqb r.missing r.missing refl, le-leb r.moment r.moment (omega arith), le-leb r.moment (r.moment + within) (omega arith)) refl
 
 met-itself : (within : ℕ) (done : List Record) (r : Record) (rest : List Sent)
     → met within r (map (λ r. taken (as_sent r)) done ++ as_sent r ∷ rest) ≡ map (λ r. taken (as_sent r)) done ++ taken (as_sent r) ∷ rest

@@ -124,33 +124,41 @@ over-none within now (s ∷ held) h = rw h refl
 taken-not : (within : ℕ) (r : Record) (s : Sent) → s.is_taken ≡ true → is_met_by within r s ≡ false
 taken-not within r s h = rw h refl
 
+less-not : (within : ℕ) (r : Record) (s : Sent) → (s.missing == r.missing) ≡ false → is_met_by within r s ≡ false
+less-not within r s h = rw (and-false (not s.is_taken && is_within within s.moment r.moment) (s.missing == r.missing) h) refl
+
 other-not : (within : ℕ) (r : Record) (s : Sent) → is_same s.octets r.octets ≡ false → is_met_by within r s ≡ false
-other-not within r s h = and-false (not s.is_taken && is_within within s.moment r.moment) (is_same s.octets r.octets) h
+other-not within r s h = and-false ((not s.is_taken && is_within within s.moment r.moment) && s.missing == r.missing) (is_same s.octets r.octets) h
 
 -- those between two numbers of their bucket
-pub none-met : (within : ℕ) (r : Record) (gone at : ℕ) (ks : List Kept) (row : List ℕ) (bucket low high : ℕ) → IsLaid at ks row → bucket ≡ bucket_of r.octets → NoneBetween gone ks bucket low high
+pub none-met : (within : ℕ) (r : Record) (gone at : ℕ) (ks : List Kept) (row : List ℕ) (bucket low high : ℕ) → IsLaid at ks row → bucket ≡ bucket_of r.missing r.octets → NoneBetween gone ks bucket low high
     → (i : ℕ) (d : Kept) (e : Sent) → i < length ks → low < gone + i + 1 → gone + i + 1 < high → is_met_by within r (get_or (laid ks row) i e) ≡ false
-none-met within r gone at ks row bucket low high h is none i d e lt lo hi = by (is_same (get_or (laid ks row) i e).octets r.octets) refl
+none-met within r gone at ks row bucket low high h is none i d e lt lo hi = by (eqb s.missing r.missing) (is_same s.octets r.octets) refl refl
   where
-    by : (q : Bool) → is_same (get_or (laid ks row) i e).octets r.octets ≡ q → is_met_by within r (get_or (laid ks row) i e) ≡ false
-    by false other = other-not within r (get_or (laid ks row) i e) other
-    by true same =
-        let octets = is_same-true (get_or (laid ks row) i e).octets r.octets same in
-        let own : (get_or ks i d).bucket ≡ bucket = bucket-at at ks row i d e h lt ∙ ap bucket_of octets ∙ sym is in
+    s : Sent
+    s = get_or (laid ks row) i e
+
+    by : (p q : Bool) → eqb s.missing r.missing ≡ p → is_same s.octets r.octets ≡ q → is_met_by within r s ≡ false
+    by false q less same = less-not within r s less
+    by true false as_many other = other-not within r s other
+    by true true as_many same =
+        let octets = is_same-true s.octets r.octets same in
+        let own : (get_or ks i d).bucket ≡ bucket =
+        bucket-at at ks row i d e h lt ∙ ap (bucket_of s.missing) octets ∙ ap (λ (n : ℕ). bucket_of n r.octets) (eqb-true s.missing r.missing as_many) ∙ sym is in
         let taken = none i d lt lo hi own in
-        taken-not within r (get_or (laid ks row) i e) (ap (λ (s : Sent). s.is_taken) (laid-at at ks row i d e h lt) ∙ taken)
+        taken-not within r s (ap (λ (s : Sent). s.is_taken) (laid-at at ks row i d e h lt) ∙ taken)
 
 -- the same of what is held
-pub none-held : (within : ℕ) (r : Record) (gone at : ℕ) (ks : List Kept) (row : List ℕ) (held : List Sent) (bucket low high : ℕ) → laid ks row ≡ held → IsLaid at ks row → bucket ≡ bucket_of r.octets → NoneBetween gone ks bucket low high
+pub none-held : (within : ℕ) (r : Record) (gone at : ℕ) (ks : List Kept) (row : List ℕ) (held : List Sent) (bucket low high : ℕ) → laid ks row ≡ held → IsLaid at ks row → bucket ≡ bucket_of r.missing r.octets → NoneBetween gone ks bucket low high
     → (i : ℕ) (e : Sent) → i < length held → low < gone + i + 1 → gone + i + 1 < high → is_met_by within r (get_or held i e) ≡ false
 none-held within r gone at ks row held bucket low high v h is none i e lt lo hi =
-    let k : Kept = record { moment = 0; at = 0; next = 0; length = 0; bucket = 0; is_taken = false } in
+    let k : Kept = record { moment = 0; at = 0; next = 0; length = 0; missing = 0; bucket = 0; is_taken = false } in
     let inside : i < length ks = omega (arith, lt, count-is ks row held v) in
     ap (λ (l : List Sent). is_met_by within r (get_or l i e)) (sym v) ∙ none-met within r gone at ks row bucket low high h is none i k e inside lo hi
 
 -- how the search goes on: those below a number aren't the one, nor that of the number, nor those before the next of its bucket
 pub step-none : (within : ℕ) (r : Record) (gone at : ℕ) (ks : List Kept) (row : List ℕ) (held : List Sent) (ends : List Ends) (i : ℕ) (k : Kept) (bucket number : ℕ) (e : Sent)
-    → laid ks row ≡ held → IsLaid at ks row → IsIndexed gone ks ends → i < length ks → k ≡ get_or ks i k → number ≡ gone + i + 1 → bucket ≡ bucket_of r.octets
+    → laid ks row ≡ held → IsLaid at ks row → IsIndexed gone ks ends → i < length ks → k ≡ get_or ks i k → number ≡ gone + i + 1 → bucket ≡ bucket_of r.missing r.octets
     → ((j : ℕ) → j < length held → gone + j + 1 < number → is_met_by within r (get_or held j e) ≡ false) → is_met_by within r (get_or held i e) ≡ false
     → (j : ℕ) → j < length held → gone + j + 1 < behind number (if k.bucket == bucket then k.next else 0) → is_met_by within r (get_or held j e) ≡ false
 step-none within r gone at ks row held ends i k bucket number e v h index lt here n is before own j inside hi = by (in_order (gone + j + 1) number)
@@ -170,7 +178,7 @@ step-none within r gone at ks row held ends i k bucket number e v h index lt her
 
 -- how it ends
 pub end-none : (within : ℕ) (r : Record) (gone at : ℕ) (ks : List Kept) (row : List ℕ) (held : List Sent) (bucket number last : ℕ) (e : Sent)
-    → laid ks row ≡ held → IsLaid at ks row → bucket ≡ bucket_of r.octets → NoneBehind gone ks bucket last → min last (gone + length ks) < number
+    → laid ks row ≡ held → IsLaid at ks row → bucket ≡ bucket_of r.missing r.octets → NoneBehind gone ks bucket last → min last (gone + length ks) < number
     → ((j : ℕ) → j < length held → gone + j + 1 < number → is_met_by within r (get_or held j e) ≡ false)
     → (j : ℕ) → j < length held → is_met_by within r (get_or held j e) ≡ false
 end-none within r gone at ks row held bucket number last e v h is none past before j inside = by (nat_lt (gone + j + 1) number) refl

@@ -40,10 +40,11 @@ pub sound-take : (gone passed : ℕ) (ks : List Kept) (row : List ℕ) (ends : L
 sound-take gone passed ks row ends capacity i k x e s lt here is =
     let at : x.at ≡ (get_or ks i k).at = ap (λ (y : Kept). y.at) is ∙ ap (λ (y : Kept). y.at) here in
     let bucket : x.bucket ≡ (get_or ks i k).bucket = ap (λ (y : Kept). y.bucket) is ∙ ap (λ (y : Kept). y.bucket) here in
+    let missing : x.missing ≡ (get_or ks i k).missing = ap (λ (y : Kept). y.missing) is ∙ ap (λ (y : Kept). y.missing) here in
     let size : x.length ≡ (get_or ks i k).length = ap (λ (y : Kept). y.length) is ∙ ap (λ (y : Kept). y.length) here in
     let next : x.next ≡ (get_or ks i k).next = ap (λ (y : Kept). y.next) is ∙ ap (λ (y : Kept). y.next) here in
     record {
-      is_laid = is_laid-set passed ks row i x k s.is_laid lt at bucket size;
+      is_laid = is_laid-set passed ks row i x k s.is_laid lt at bucket missing size;
       is_indexed = index-take gone ks ends i x e s.is_indexed lt
           (λ d l. bucket ∙ ap (λ (y : Kept). y.bucket) (same-at ks i k d lt)) (λ d l. next ∙ ap (λ (y : Kept). y.next) (same-at ks i k d lt))
           (ap (λ (y : Kept). y.is_taken) is) (omega (arith, bucket, bucket-few passed ks row i k s.is_laid lt, s.buckets));
@@ -85,7 +86,7 @@ sound-link gone passed ks row ends capacity bucket number e s here few n = by (n
         let held = laid-set ks row i x k (sent_of k []) lt (ap (λ (y : Kept). y.length) (sym at)) in
         record {
           sound = record {
-            is_laid = is_laid-set passed ks row i x k s.is_laid lt (ap (λ (y : Kept). y.at) (sym at)) (ap (λ (y : Kept). y.bucket) (sym at)) (ap (λ (y : Kept). y.length) (sym at));
+            is_laid = is_laid-set passed ks row i x k s.is_laid lt (ap (λ (y : Kept). y.at) (sym at)) (ap (λ (y : Kept). y.bucket) (sym at)) (ap (λ (y : Kept). y.missing) (sym at)) (ap (λ (y : Kept). y.length) (sym at));
             is_indexed = index-link gone ks ends i x s.is_indexed lt (λ d l. ap (λ (y : Kept). y.bucket) (known d)) (λ d l t. ap (λ (y : Kept). y.is_taken) (known d) ∙ t) none (omega (arith, n));
             few = omega (arith, s.few, length-set ks i x);
             small = s.small;
@@ -125,7 +126,7 @@ first-small gone number e = by (nat_lt gone e.last && nat_le e.first e.last) ref
     by false h = rw h (omega arith)
 
 pub sound-put : (gone passed : ℕ) (ks : List Kept) (row : List ℕ) (ends : List Ends) (capacity more : ℕ) (k : Kept) (text : List ℕ) (number : ℕ) (e : Ends) → IsSound gone passed ks row ends capacity → e ≡ get_or ends k.bucket e
-    → number ≡ gone + length ks + 1 → k.at ≡ passed + length row → k.bucket ≡ bucket_of text → k.bucket < 262144 → k.length ≡ length text → k.next ≡ 0
+    → number ≡ gone + length ks + 1 → k.at ≡ passed + length row → k.bucket ≡ bucket_of k.missing text → k.bucket < 262144 → k.length ≡ length text → k.next ≡ 0
     → length ks < 1048576 → length row + length text ≤ 268435456 → gone + length ks < 4611686018427387904 → passed + length row + length text ≤ 4611686018427387904 → capacity ≤ more
     → IsSound gone passed (ks ++ k ∷ []) (row ++ text) (set ends k.bucket (ends_with gone number e)) more
 sound-put gone passed ks row ends capacity more k text number e s here n at bucket few size next room small records octets reserved =

@@ -17,6 +17,6 @@ word_sum (suc n) octets = (word_sum n octets + little_number 8 (drop (8 * n) oct
 abbrev pub last_word : List ℕ → ℕ
 last_word octets = if nat_lt (length octets) 8 then 0 else little_number 8 (drop (length octets - 8) octets)
 
--- the bucket of octets
-unfoldable pub bucket_of : List ℕ → ℕ
-bucket_of octets = bucket_by (word_sum (length octets / 8) octets) (last_word octets) (length octets)
+-- the bucket of a record with these octets, of which so many more are missing
+unfoldable pub bucket_of : ℕ → List ℕ → ℕ
+bucket_of missing octets = bucket_by (word_sum (length octets / 8) octets) (last_word octets) (length octets + missing)

@@ -1,16 +1,18 @@
 -- Two captures, compared as their records come. It states no standard.
-use Rattle.std.specs.Prelude.{◌≡◌, ◌<◌, ⊤, ℕ, ◌+◌, List, [], ◌∷◌, ◌++◌, length, map}
+use Rattle.std.specs.Prelude.{◌≡◌, ◌<◌, ⊤, ℕ, ◌+◌, ◌==◌, if◌then◌else◌, List, [], ◌∷◌, ◌++◌, length, map}
 use Rattle.record_match.specs.Laws.{AreOver}
 use Rattle.record_match.specs.Match.{Record, Sent, as_sent, matched, received_count}
 use Rattle.record_match.specs.Settled.{Fact, alone_from, fact_by, gone_alone, of_received, of_sent, sent_moment, told_from}
 use Rattle.record_match.specs.Window.{Window, at_moment}
+use Rattle.record_match.specs.declared.cut.Cut.{Cut}
 
--- the window, and how many records were sent, were received, and are both
+-- the window, how many records were sent, were received, and are both, and how many of each are cut
 pub record Counted : Type 0 where
   pub window : Window
   pub sent : ℕ
   pub received : ℕ
   pub both : ℕ
+  pub cut : Cut
 
 -- the same, and what whoever looks on was told
 pub record Comparison : Type 0 where
@@ -18,10 +20,11 @@ pub record Comparison : Type 0 where
   pub sent : ℕ
   pub received : ℕ
   pub both : ℕ
+  pub cut : Cut
   pub log : List Fact
 
 abbrev pub logged : Counted → List Fact → Comparison
-logged c log = record { window = c.window; sent = c.sent; received = c.received; both = c.both; log = log }
+logged c log = record { window = c.window; sent = c.sent; received = c.received; both = c.both; cut = c.cut; log = log }
 
 -- what is told of a record that is received: first those that are over then, and then what it is
 abbrev pub facts_of : Counted → Record → List Fact
@@ -33,6 +36,11 @@ facts_of c r =
 abbrev pub AreBefore : ℕ → List Record → Type 0
 AreBefore moment [] = ⊤
 AreBefore moment (r ∷ rs) = (r.moment < moment) × AreBefore moment rs
+
+-- how many records are cut
+abbrev pub cut_in : List Record → ℕ
+cut_in [] = 0
+cut_in (r ∷ rs) = (if r.missing == 0 then 0 else 1) + cut_in rs
 
 -- how many octets records have together
 abbrev pub octets_in : List Record → ℕ
@@ -48,6 +56,7 @@ pub record IsCompared (c : Comparison) (sent received : List Record) (now : ℕ)
   pub are_over : AreOver c.window.within now over
   pub sent_is : c.sent ≡ length sent
   pub received_is : c.received ≡ length received
+  pub cut_is : (c.cut.sent ≡ cut_in sent) × (c.cut.received ≡ cut_in received)
   pub records_is : c.window.records ≡ length sent
   pub octets_is : c.window.octets ≡ octets_in sent
   pub gone_is : c.window.records ≡ length over + length c.window.held

@@ -6,7 +6,6 @@
 --     IsTold       what is told of delays
 use Rattle.std.specs.Prelude.{◌≡◌, ◌<◌, ◌≤◌, ◌==◌, ℕ, ◌+◌, ◌-◌, ◌*◌, ◌/◌, ◌^◌, min, max, nat_lt, nat_le, if◌then◌else◌}
 use Rattle.std.specs.Prelude.{List, [], ◌∷◌, length, map, replicate, set, slice_index_or, Option, Some, None}
-use Rattle.record_match.specs.Match.{Record}
 use Rattle.record_match.specs.Settled.{Fact, Both, ReceivedAlone, SentAlone}
 use Rattle.record_match.specs.Lengths.{one_more}
 use Rattle.record_match.specs.declared.tables.delays.DelaySummary.{DelaySummary}

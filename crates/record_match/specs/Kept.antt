@@ -10,11 +10,11 @@ use Rattle.record_match.specs.declared.seen.Seen.{Seen}
 
 -- what a record tells
 abbrev pub told : Seen → Record
-told s = record { moment = s.moment; octets = s.octets.now }
+told s = record { moment = s.moment; octets = s.octets.now; missing = s.missing }
 
 -- a record with its octets
 abbrev pub sent_of : Kept → List ℕ → Sent
-sent_of k octets = record { moment = k.moment; octets = octets; is_taken = k.is_taken }
+sent_of k octets = record { moment = k.moment; octets = octets; missing = k.missing; is_taken = k.is_taken }
 
 -- records with their octets, which stand in one row
 abbrev pub laid : List Kept → List ℕ → List Sent
@@ -24,7 +24,7 @@ laid (k ∷ ks) row = sent_of k (take k.length row) ∷ laid ks (drop k.length r
 -- the first record: so many octets were sent before it, it has the bucket of its octets, and the row has all of them
 pub record IsFirst (at : ℕ) (k : Kept) (row : List ℕ) : Type 0 where
   pub at_is : k.at ≡ at
-  pub bucket_is : k.bucket ≡ bucket_of (take k.length row)
+  pub bucket_is : k.bucket ≡ bucket_of k.missing (take k.length row)
   pub few : k.bucket < 262144
   pub within : k.length ≤ length row
 

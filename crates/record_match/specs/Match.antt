@@ -4,31 +4,35 @@
 --     met          those that were sent, once a record was received
 --     matched      the same for all that is received, in a row
 --     lonely       those that are received and were not sent
-use Rattle.std.specs.Prelude.{ℕ, ◌+◌, nat_le, ◌&&◌, ◌||◌, not, if◌then◌else◌, Bool, true, false, List, [], ◌∷◌, map}
+use Rattle.std.specs.Prelude.{ℕ, ◌+◌, ◌==◌, nat_le, ◌&&◌, ◌||◌, not, if◌then◌else◌, Bool, true, false, List, [], ◌∷◌, map}
 use Rattle.wire.specs.Octets.{is_same}
 
--- a record: its moment in nanoseconds, and its octets
+-- a record: its moment in nanoseconds, the octets that there are of it, and how many more it had: 0 of a whole one, else it is cut
 pub record Record : Type 0 where
   pub moment : ℕ
   pub octets : List ℕ
+  pub missing : ℕ
 
 -- a record that was sent, and whether it was received
 pub record Sent : Type 0 where
   pub moment : ℕ
   pub octets : List ℕ
+  pub missing : ℕ
   pub is_taken : Bool
 
 -- a record that is sent isn't received yet
 abbrev pub as_sent : Record → Sent
-as_sent r = record { moment = r.moment; octets = r.octets; is_taken = false }
+as_sent r = record { moment = r.moment; octets = r.octets; missing = r.missing; is_taken = false }
 
 -- one is no earlier than another, and at most so many nanoseconds later
 abbrev pub is_within : ℕ → ℕ → ℕ → Bool
 is_within within before behind = nat_le before behind && nat_le behind (before + within)
 
--- a record that is received is one that was sent: not received yet, soon after, and octet for octet
+-- a record that is received is one that was sent: not received yet, soon after, octet for octet, and with as many octets missing.
+-- So none that is cut is one that is whole, or one that was of another length
 abbrev pub is_met_by : ℕ → Record → Sent → Bool
-is_met_by within r s = (not s.is_taken && is_within within s.moment r.moment) && is_same s.octets r.octets
+is_met_by within r s =
+    ((not s.is_taken && is_within within s.moment r.moment) && s.missing == r.missing) && is_same s.octets r.octets
 
 -- whether a record that is received was sent
 abbrev pub is_known : ℕ → Record → List Sent → Bool

@@ -32,7 +32,8 @@ told_from within number sent (r ∷ rs) =
 
 -- a record that was sent, where it wasn't received
 abbrev pub alone_of : ℕ → Sent → List Fact
-alone_of number s = if s.is_taken then [] else SentAlone number (record { moment = s.moment; octets = s.octets }) ∷ []
+alone_of number s =
+    if s.is_taken then [] else SentAlone number (record { moment = s.moment; octets = s.octets; missing = s.missing }) ∷ []
 
 -- those of some that weren't received, the first of this number
 abbrev pub alone_from : ℕ → List Sent → List Fact

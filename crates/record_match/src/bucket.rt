@@ -1,4 +1,4 @@
-//! Where records of the same octets are looked for.
+//! Where records of the same octets, with as many missing, are looked for.
 ghost use Rattle.std.specs.Prelude.{◌≡◌, ◌<◌, ◌≤◌, ◌+◌, ◌*◌, ◌/◌, length, drop};
 ghost use Rattle.byteorder.specs.Endian.{little_number};
 ghost use Rattle.record_match.specs.Bucket.{bucket_by, bucket_of, last_word, word_sum};
@@ -17,13 +17,17 @@ const SHARE: u64 = 70_368_744_177_664;
 /// The octets of a word.
 const WORD: usize = 8;
 
-/// The bucket of a record with these octets, below 262,144: records of the same octets have the same. A sum over all octets by
-/// which it is chosen is cheap, and need not tell octets in another order.
-pub(crate) fn bucket_of(octets: &[u8]) -> u32
-    ensures bucket { result ≡ bucket_of octets.now }
+/// The bucket of a record with these octets and so many missing, below 262,144: records that are the same have the same. A sum
+/// over all octets by which it is chosen is cheap, and need not tell octets in another order.
+pub(crate) fn bucket_of(octets: &[u8], missing: u32) -> u32
+    ensures bucket { result ≡ bucket_of missing octets.now }
     ensures bound { result < 262144 }
 {
-    bucket_by(word_sum(octets), last_word(octets), octets.len() as u64)
+    bucket_by(
+        word_sum(octets),
+        last_word(octets),
+        octets.len() as u64 + missing as u64,
+    )
 }
 
 /// The bucket of so many octets with this sum of words and this last word.

@@ -8,6 +8,7 @@ ghost use Rattle.record_match.specs.Match.{Record};
 ghost use Rattle.record_match.specs.Settled.{Fact, fact_by, gone_alone, held_alone};
 ghost use Rattle.record_match.specs.Window.{at_moment, has_room};
 
+use crate::cut::Cut;
 use crate::onlooker::Onlooker;
 use crate::seen::Seen;
 use crate::window::Window;
@@ -15,21 +16,25 @@ use std::alloc::{AllocError, Global};
 use std::marker::Model;
 
 /// Two captures, compared as their records come, each told in turn at its moment: of several at one moment those that were sent
-/// first. It counts them, and how many of them are both.
+/// first. It counts them, how many of them are both, and how many of each are cut.
 #[derive(Drop)]
 pub struct Comparison {
     window: Window,
     sent: u64,
     received: u64,
     both: u64,
+    cut: Cut,
 }
 
 impl Model for Comparison {
+    ghost use Rattle.std.specs.Prelude.{◌≤◌};
     ghost use Rattle.record_match.specs.Compared.{Counted};
 
     ghost Value = { Counted };
 
-    ghost view = { λ c. record { window = c.window; sent = c.sent; received = c.received; both = c.both } };
+    ghost view = { λ c. record { window = c.window; sent = c.sent; received = c.received; both = c.both; cut = c.cut } };
+
+    ghost invariant = { λ c. (c.cut.sent ≤ c.sent) × (c.cut.received ≤ c.received) };
 }
 
 impl Comparison {
@@ -45,6 +50,10 @@ impl Comparison {
             sent: 0,
             received: 0,
             both: 0,
+            cut: Cut {
+                sent: 0,
+                received: 0,
+            },
         })
     }
 
@@ -63,7 +72,9 @@ impl Comparison {
         ensures seen { FoldsTo W.sees onlooker.old (gone_alone sent.now.moment self.old.window) onlooker.new }
     {
         let has_room = self.window.send(sent, onlooker);
-        self.sent += one_if(has_room);
+        let one = one_if(has_room);
+        self.sent += one;
+        self.cut.sent += sent.if_cut(one);
         has_room
     }
 
@@ -81,6 +92,7 @@ impl Comparison {
     {
         let sent = self.window.receive(received, onlooker);
         self.received += 1;
+        self.cut.received += received.if_cut(1);
         self.both += one_if_some(sent);
         tell_received(onlooker, sent, self.received, received);
     }
@@ -112,6 +124,13 @@ impl Comparison {
         ensures { result ≡ self.now.both }
     {
         self.both
+    }
+
+    /// How many of each are cut.
+    pub fn cut(&self) -> Cut
+        ensures { result ≡ self.now.cut }
+    {
+        self.cut
     }
 }
 

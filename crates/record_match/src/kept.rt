@@ -15,8 +15,9 @@ pub(crate) struct Kept {
     pub(crate) at: u64,
     /// The number of the next record of its bucket, from 1; 0 where none was sent yet.
     pub(crate) next: u64,
-    /// How many octets it has.
-    pub(crate) length: usize,
+    /// How many octets it has here, and how many more it had.
+    pub(crate) length: u32,
+    pub(crate) missing: u32,
     pub(crate) bucket: u32,
     /// Whether it was received.
     pub(crate) is_taken: bool,
@@ -34,7 +35,9 @@ impl Kept {
     pub(crate) fn is_met_by(&self, octets: &[u8], within: u64, received: &Seen) -> bool
         ensures { result ≡ is_met_by within (told received.now) (sent_of self.now octets.now) }
     {
-        self.is_awaited(within, received.moment) && is_same(octets, received.octets)
+        self.is_awaited(within, received.moment)
+            && self.missing == received.missing
+            && is_same(octets, received.octets)
     }
 
     /// Whether it may be received at a moment.

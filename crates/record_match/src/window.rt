@@ -147,7 +147,8 @@ impl Window {
         }
         let seen = Seen {
             moment: kept.moment,
-            octets: &self.row.held()[..kept.length],
+            octets: &self.row.held()[..kept.length as usize],
+            missing: kept.missing,
         };
         onlooker.see_sent(self.gone + 1, &seen);
     }
@@ -179,7 +180,7 @@ impl Window {
         };
         let ends = &mut self.ends[kept.bucket as usize];
         *ends = ends.without(self.gone, self.gone + 1, kept.next);
-        self.row.forget(kept.length);
+        self.row.forget(kept.length as usize);
         self.gone += 1;
         self.passed += kept.length as u64;
     }
@@ -205,7 +206,7 @@ impl Window {
         requires { has_room self.old (length sent.now.octets.now) ≡ true }
         ensures { self.new ≡ with_sent (told sent.now) self.old }
     {
-        let bucket = bucket_of(sent.octets);
+        let bucket = bucket_of(sent.octets, sent.missing);
         let number = self.gone + self.kept.len() as u64 + 1;
         let ends = self.ends[bucket as usize];
         link(&mut self.kept, self.gone, ends.last, bucket, number);
@@ -214,7 +215,8 @@ impl Window {
             moment: sent.moment,
             at: self.passed + self.row.held().len() as u64,
             next: 0,
-            length: sent.octets.len(),
+            length: sent.octets.len() as u32,
+            missing: sent.missing,
             bucket,
             is_taken: false,
         };
@@ -227,7 +229,7 @@ impl Window {
     fn search(&self, received: &Seen) -> Option<usize>
         ensures { FindsFirst self.now.within (told received.now) self.now.held result }
     {
-        let bucket = bucket_of(received.octets);
+        let bucket = bucket_of(received.octets, received.missing);
         let ends = self.ends[bucket as usize];
         let last = ends.last.min(self.gone + self.kept.len() as u64);
         let mut number = ends.first.max(self.gone + 1);
@@ -248,7 +250,7 @@ impl Window {
     {
         let kept = &self.kept[i];
         let begin = (kept.at - self.passed) as usize;
-        let end = begin + kept.length;
+        let end = begin + kept.length as usize;
         kept.is_met_by(&self.row.held()[begin..end], self.within, received)
     }
 

@@ -1,8 +1,8 @@
 //! How far a long run is, on a terminal: one line, written over the last one, and gone at the end.
 //!
-//! Use first: [`Progress::start`] asks whether standard error is a terminal and looks at the clock, and [`Beside`] puts what it
-//! gives beside whoever else looks on while `stream_run` runs. [`Progress::finish`] takes the line away where a run stops. The
-//! parts of it are [`Counted`], [`Pace`] and [`Shown`].
+//! Use first: [`Progress::start`] asks whether standard error is a terminal and looks at the clock, and [`WithProgress`] puts
+//! what it gives beside whoever else looks on while `stream_run` runs. [`Progress::finish`] takes the line away where a run
+//! stops. The parts of it are [`Counted`], [`Pace`] and [`Shown`].
 //!
 //! Specs to read, in order: `specs/Counted`, `specs/Pace`, `specs/Shown`.
 //!
@@ -17,22 +17,22 @@
 //! - A line is due after the first second, and then 200 ms behind the last one or later: `Pace::is_due`.
 //! - The rate is that of all events since the start, rounded down, without overflow; the share is rounded down and at
 //!   most 99 in a hundred: `rate_of`, `share_of`. A line has these of what was counted: `Counted::line`.
-//! - Whoever else looks on sees what it would alone, and a run's contract for it is that without progress: `Beside`.
+//! - Whoever else looks on sees what it would alone, and a run's contract for it is that without progress: `WithProgress`.
 //!
 //! Why it is so: the clock is looked at once in 4,096 events, so that an event costs a few instructions more. A clock or a write
 //! that fails is passed over: a run doesn't end for its progress.
 #![tactic(auto)]
 
-mod beside;
 mod counted;
 mod pace;
 mod progress;
 mod screen;
 mod shown;
+mod with_progress;
 
-pub use beside::Beside;
 pub use counted::Counted;
 pub use pace::{Pace, rate_of, share_of};
 pub use progress::Progress;
 pub use screen::Screen;
 pub use shown::Shown;
+pub use with_progress::WithProgress;

@@ -22,12 +22,8 @@ use Rattle.stream_run.specs.Sieved.{all_taken}
 use Rattle.stream_run.specs.Reached.{IsReachedOverSieved}
 use Rattle.stream_run.specs.Stage.{Drains, Everything, StandAt, StandsBetween}
 use Rattle.stream_run.specs.Steps.{AreReadBehind}
-use Rattle.program_files.specs.Held.{AreHandedOn, Held}
+use Rattle.program_files.specs.Held.{AreHandedOn, Held, written}
 use Rattle.runs_on_files.specs.Held.{HoldMore, IsRunInto}
-
--- what the outputs of a run hold
-abbrev pub held_in : Drains → Held
-held_in d = record { ports = map (λ (d : Drain). d.written) d.ports; underlay = d.underlay.written; decisions = d.decisions.written }
 
 appends_kept : (a b c : Option (List ℕ)) (text : List ℕ) → Appends a b text → Keeps b c → Appends a c text
 appends_kept None b c text h k = tt
@@ -42,7 +38,7 @@ appended old new text h = subst (λ t. Appends old.written new.written t) (take_
 no_drain : Drain
 no_drain = record { written = None; failures = 0; is_failed = false; held = [] }
 
-pub held_more : (old new : Drains) (held : Held) (texts : Outputs) → StandAt old new texts → AreHandedOn (held_in new) held → HoldMore (held_in old) held texts
+pub held_more : (old new : Drains) (held : Held) (texts : Outputs) → StandAt old new texts → AreHandedOn (written new) held → HoldMore (written old) held texts
 held_more old new held texts h kept =
     let written = λ (d : Drain). d.written in
     let ports = h.between.ports in
@@ -95,7 +91,7 @@ module _ (taken : List Event → List Event) (segments : Segments) where
       → AnswersSieved taken segments m c (ends ports underlay old) (ends new_ports new_underlay new) (Ok tt)
       → ((texts : List (Vec ℕ Global)) (text : List ℕ) → Tells ports underlay texts text → IsRunOverSieved taken segments m c texts text old new (Ok tt))
       → ((texts : List (Vec ℕ Global)) (text : List ℕ) → Tells ports underlay texts text → IsReachedOverSieved taken segments m c texts text old new new_ports new_underlay (Ok tt))
-      → AreHandedOn (held_in new) held → IsRunInto taken segments m c ports underlay new_ports new_underlay (held_in old) held
+      → AreHandedOn (written new) held → IsRunInto taken segments m c ports underlay new_ports new_underlay (written old) held
   run_into m c asked told of_m of_c ports underlay new_ports new_underlay old new held run over reached kept =
       let some = leaves asked told m c (ends ports underlay old) (ends new_ports new_underlay new) of_m of_c run in
       record {

@@ -16,6 +16,7 @@ use text_calls::tap_of;
 use timeline::Tap;
 
 /// Prints the digests of captures.
+#[inline(never)]
 pub fn print_digests<'a, R: Files + Input + AllocGlobal + Print>(
     rt: &R,
     underlay: &'a str,

@@ -8,7 +8,7 @@ ghost use Rattle.program_files.specs.Held.{AreHeld, written};
 use crate::headers::see_headers;
 use program_faults::Failure;
 use program_files::{
-    Destination, Names, Outputs, drop_part, drop_texts, open_outputs, see_objects, see_room,
+    Destination, Names, OutputFiles, drop_part, drop_texts, open_outputs, see_objects, see_room,
     spare_inputs,
 };
 use std::io::Input;
@@ -22,9 +22,9 @@ pub(crate) fn prepare_outputs<'a, R: Files + Input + AllocGlobal>(
     folder: Destination<'_>,
     is_part: bool,
     count: usize,
-) -> Result<Outputs<R::File>, Failure<'a>>
-    ensures count { IfOk result (λ outputs. length outputs.ports.items ≡ count) }
-    ensures in_files { IfOk result (λ outputs. AreHeld R.File.contents (written outputs.ports.items outputs.underlay outputs.decisions)) }
+) -> Result<OutputFiles<R::File>, Failure<'a>>
+    ensures count { IfOk result (λ outputs. length outputs.files.ports ≡ count) }
+    ensures in_files { IfOk result (λ outputs. AreHeld R.File.contents (written outputs.files)) }
 {
     spare_inputs(rt, folder, names)?;
     see_room(rt, count.saturating_add(1), count, is_part, folder.objects)?;

@@ -10,10 +10,10 @@ ghost use Rattle.stream_run.specs.Begun.{IsUnread};
 
 use crate::run_captures::{RunCaptures, failure_of};
 use program_faults::Failure;
-use program_files::{FailedOutputs, HandedOn, Names, Outputs as OutputFiles};
+use program_files::{FailedOutputs, HandedOn, Names, OutputFiles};
 use std::alloc::Global;
 use std::io::{Read, Write};
-use stream_run::{Job, Outputs, Sieve, Watch, run};
+use stream_run::{Job, Sieve, Watch, run};
 
 /// A run whose texts were read, and the outputs that it goes into.
 #[derive(Drop)]
@@ -36,7 +36,7 @@ pub(crate) fn run_into<'a, F: Read + Drop, I: Read + Drop, O: Write + Drop, S: S
     requires settings { settings_in job.run.settings_text.now ≡ Ok job.run.settings }
     requires told { changes_in job.run.changes_text.now ≡ Ok job.run.changes.now }
     requires rising { EachBehind IsRising [] job.run.changes.now }
-    requires outputs { length job.outputs.ports.items ≡ length captures.old.ports.items }
+    requires outputs { length job.outputs.files.ports ≡ length captures.old.ports.items }
     requires ports { All IsUnread captures.old.ports.items }
     requires underlay { IsUnread captures.old.underlay }
     ensures handed_ports { IfOk result (λ files. All (λ (b : Block). b.held ≡ []) files.ports.items) }
@@ -45,39 +45,16 @@ pub(crate) fn run_into<'a, F: Read + Drop, I: Read + Drop, O: Write + Drop, S: S
     ensures run { IfOk result (λ files. IsRunInto (S.taken sieve.old) job.entry.run.segments.now
         (settings_in job.entry.run.settings_text.now) (changes_in job.entry.run.changes_text.now)
         captures.old.ports.items captures.old.underlay captures.new.ports.items captures.new.underlay
-        (written job.entry.outputs.ports.items job.entry.outputs.underlay job.entry.outputs.decisions)
+        (written job.entry.outputs.files)
         (handed_on files.ports.items files.underlay files.decisions)) }
     ensures in_files { IfOk result (λ files. AreHeld O.contents (handed_on files.ports.items files.underlay files.decisions)) }
 {
     let WrittenJob {
         names,
         run: asked,
-        outputs,
+        mut outputs,
     } = job;
-    let OutputFiles {
-        ports,
-        underlay,
-        decisions,
-        part_file,
-    } = outputs;
-    let mut written = Outputs {
-        ports,
-        underlay,
-        decisions,
-    };
-    let end = run(alloc, asked, captures, &mut written, sieve, watch);
-    let Outputs {
-        ports,
-        underlay,
-        decisions,
-    } = written;
-    let outputs = OutputFiles {
-        ports,
-        underlay,
-        decisions,
-        part_file,
-    };
-    match end {
+    match run(alloc, asked, captures, &mut outputs.files, sieve, watch) {
         Ok(()) => match outputs.finish(alloc, failed) {
             Ok(files) => Ok(files),
             Err(failure) => Err(failure),

@@ -16,6 +16,7 @@ const READS: u64 = 35_184_372_088_832;
 /// Splits a pcapng capture: writes a classic capture of each of its interfaces into a folder, and prints a list of them. What
 /// is written of an interface is what `CAPTURE#NUMBER` is read as. Where the capture is refused, for all interfaces or for one,
 /// the files hold the packets before that; the first interface that is refused is told, and all are in the list.
+#[inline(never)]
 pub fn split<'a, R: Files + Input + AllocGlobal + Print>(
     rt: &R,
     folder: &'a str,

@@ -5,10 +5,11 @@
 --     StandBetween      what the outputs hold more than before: at least the one texts, and at most the others
 --     LinesComeLast      no line stands there before all that leaves does
 use Rattle.std.specs.Prelude.{◌≡◌, ◌⊎◌, ◌<◌, ◌≤◌, ℕ, ◌+◌, ◌-◌, ⊤, Bool, false, List, [], length}
-use Rattle.std.specs.Prelude.{replicate, take, slice_index_or, map, Option, Result, Ok, Err}
+use Rattle.std.specs.Prelude.{replicate, take, slice_index_or, map, Result, Ok, Err}
 use Rattle.std.specs.Io.KnownBytes.{Appends}
 use Rattle.pcap.specs.Counts.{GoesOnBy}
 use Rattle.pcap.specs.Sink.{Drain}
+pub use Rattle.timeline.specs.Drains.{Drains, drains}
 use Rattle.timeline.specs.Timeline.{Timeline}
 use Rattle.timeline.specs.declared.event.Event.{Event}
 use Rattle.overlay.specs.declared.settings.change.Change.{Change}
@@ -64,20 +65,6 @@ stage_texts taken segments S changes ports t Everything =
     outputs_among segments S changes ports (record { events = taken t.events; cuts = t.cuts })
 
 -- ---- the outputs
-
--- those of a run: that of port 1 first
-pub record Drains : Type 0 where
-  pub ports : List Drain
-  pub underlay : Drain
-  pub decisions : Drain
-
--- the output of the lines is no sink, so it gives up at no time
-abbrev pub drains : List Drain → Drain → Option (List ℕ) → ℕ → List ℕ → Drains
-drains ports underlay written failures held = record {
-  ports = ports;
-  underlay = underlay;
-  decisions = record { written = written; failures = failures; is_failed = false; held = held };
-}
 
 -- an output holds more than before the front of a text, which is no shorter than another
 pub record StandsBetween (old new : Drain) (least most : List ℕ) : Type 0 where

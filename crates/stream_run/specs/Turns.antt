@@ -2,6 +2,7 @@
 --     Turn      where a source of events stands: how many of its events came, and the moment of the next one
 use Rattle.std.specs.Prelude.{◌≡◌, ◌<◌, ◌≤◌, ◌-◌, ◌^◌, ◌⊎◌, ⊤, ℕ, List, slice_index_or, Option, Some, None}
 use Rattle.pcap.specs.Record.{last_moment}
+use Rattle.stream_run.specs.declared.part.Next.{Next}
 use Rattle.stream_run.specs.declared.turn.First.{First}
 use Rattle.stream_run.specs.declared.turn.Turn.{Turn}
 
@@ -21,6 +22,10 @@ pub record IsFirst (turns : List Turn) (count : ℕ) (first : First) : Type 0 wh
   pub next : (t : Turn) → (slice_index_or turns first.index t).next ≡ Some first.moment
   pub later : (t : Turn) (k : ℕ) → k < first.index → IsLater first.moment (slice_index_or turns k t).next
   pub no_sooner : (t : Turn) (k : ℕ) → k < count → IsNoSooner first.moment (slice_index_or turns k t).next
+
+-- the event that comes next of a source, as one that comes first
+abbrev pub first_of : Next → First
+first_of next = record { index = next.index; moment = next.moment }
 
 -- it was found, or there is none
 abbrev pub FindsFirst : List Turn → ℕ → Option First → Type 0

@@ -4,11 +4,11 @@
 --     IsOutBefore      where a read may wait, all is out before it is made
 --     IsOutAtHalt, IsOutAtRead      where a read that may wait failed, all was out when it was made
 --     LeaveTheSame      whatever was held back on the way, the same stands at the end
-use Rattle.std.specs.Prelude.{◌≡◌, ◌<◌, ⊤, ℕ, Bool, true, false, List, [], length, slice_index_or, Vec, Result, Ok, Err}
+use Rattle.std.specs.Prelude.{◌≡◌, ⊤, ℕ, Bool, true, false, List, [], length, Vec, Result, Ok, Err}
 use Rattle.std.specs.declared.alloc.Global.{Global}
-use Rattle.pcap.specs.Sink.{Drain}
 use Rattle.pcap.specs.Source.{Stream, holds_next}
 use Rattle.pcap.specs.declared.stream.fault.SourceFault.TheVariants as source
+use Rattle.timeline.specs.Drains.{PortsOut}
 use Rattle.timeline.specs.declared.source.Tap.{Tap}
 use Rattle.overlay_config.specs.Fault.{Meaning}
 use Rattle.overlay_config.specs.Settings.{Settings}
@@ -21,10 +21,6 @@ use Rattle.stream_run.specs.declared.fault.Halt.{Halt}
 use Rattle.stream_run.specs.declared.fault.Halt.TheVariants as halt
 use Rattle.stream_run.specs.declared.fault.StreamFault.{StreamFault}
 use Rattle.stream_run.specs.declared.fault.StreamFault.TheVariants as stream
-
--- the captures of the ports hold nothing back; no run has more than 255
-abbrev pub PortsOut : List Drain → Type 0
-PortsOut ports = (x : Drain) (k : ℕ) → k < length ports → k < 255 → (slice_index_or ports k x).held ≡ []
 
 -- no output holds anything back: what was written stands outside
 pub record AllOut (d : Drains) : Type 0 where

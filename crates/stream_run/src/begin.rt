@@ -17,11 +17,12 @@ use crate::captures::Captures;
 use crate::fault::{StreamFault, Target, fault_at};
 use crate::fetch::{fetch_at, moment_of, tap_at};
 use crate::hand_on::hand_on_all;
-use crate::outputs::Outputs;
+use crate::part::Next;
 use crate::turn::{Turn, Upcoming};
 use overlay_config::TimedChange;
 use pcap::stream::{Input, Output};
 use std::alloc::{AllocError, Global};
+use timeline::Outputs;
 
 /// Writes the header of the capture of the port with this index, from 0.
 fn begin_port<W: Output>(outputs: &mut Outputs<W>, index: usize) -> Result<(), Target>
@@ -122,13 +123,18 @@ pub fn fetch_all<R: Input, W: Output>(
     ensures only_reads { OnlyReads result }
 {
     for index in 1..turns.len() {
-        let mut next = None;
-        if let Err(fault) = fetch_at(changes, captures, outputs, index, 0, 0, &mut next) {
+        let next = Next {
+            index,
+            moment: 0,
+            done: 0,
+        };
+        let mut when = None;
+        if let Err(fault) = fetch_at(changes, captures, outputs, next, &mut when) {
             return Err(fault_at(tap_at(turns.len() - 2, index), 1, fault));
         }
         turns[index] = Turn {
             done: 0,
-            next: Upcoming::at(next),
+            next: Upcoming::at(when),
         };
     }
     Ok(())

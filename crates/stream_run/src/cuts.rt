@@ -9,13 +9,12 @@ ghost use Rattle.stream_run.specs.Stage.{Drains, Lead, StandAt};
 
 use crate::captures::Captures;
 use crate::fault::Target;
-use crate::outputs::Outputs;
 use crate::put::put_line;
 use crate::turn::Turn;
 use decision_lines::Line;
 use pcap::stream::{Input, Output, Source};
 use segment_set::SegmentSet;
-use timeline::{Cut, Tap};
+use timeline::{Cut, Outputs, Tap};
 
 /// Puts the line of a capture, if it is cut behind so many whole records.
 fn put_cut<R: Input, W: Output>(

@@ -7,10 +7,10 @@ ghost use Rattle.stream_run.specs.Steps.{FetchesFrom, IsAt, moment_at, source_at
 ghost use Rattle.stream_run.specs.Waiting.{IsOutBefore, TakesRead};
 
 use crate::captures::Captures;
-use crate::outputs::Outputs;
+use crate::part::Next;
 use overlay_config::TimedChange;
 use pcap::stream::{Input, Output, Source, SourceFault};
-use timeline::Tap;
+use timeline::{Outputs, Tap};
 
 /// Fetches the next record of a capture, the latest of those that came at this moment, and sets when it comes, if there is one.
 /// Where it fails, what was set says nothing.
@@ -44,37 +44,35 @@ pub fn moment_of(changes: &[TimedChange], index: u64) -> Option<u64>
     }
 }
 
-/// Asks the source with this index, of which so many events came, for what comes next, and sets when, if there is more: the
-/// changes, the ports, the underlay. The changes never fail. Where that takes a read which may wait, the outputs hold nothing
+/// Asks a source, of which so many events came, the latest at this moment, for what comes next, and sets when, if there is more:
+/// the changes, the ports, the underlay. The changes never fail. Where that takes a read which may wait, the outputs hold nothing
 /// back. Where a read failed, it took one.
 pub fn fetch_at<R: Input, W: Output>(
     changes: &[TimedChange],
     captures: &mut Captures<R>,
     _outputs: &Outputs<W>,
-    index: usize,
-    done: u64,
-    latest: u64,
-    next: &mut Option<u64>,
+    next: Next,
+    when: &mut Option<u64>,
 ) -> Result<(), SourceFault>
-    requires index { index ≤ length captures.old.ports.items + 1 }
+    requires index { next.index ≤ length captures.old.ports.items + 1 }
     requires few { length captures.old.ports.items ≤ 255 }
-    requires open { (place : ATap) → IsAt (length captures.old.ports.items) index place
+    requires open { (place : ATap) → IsAt (length captures.old.ports.items) next.index place
         → IsOpen (source_at captures.old.ports.items captures.old.underlay place).standing }
-    requires out { IsOutBefore captures.old.may_wait captures.old.ports.items captures.old.underlay index _outputs.now }
-    ensures fetched { FetchesFrom changes.now index done latest captures.old.ports.items captures.old.underlay
-        captures.new.ports.items captures.new.underlay next.new result }
-    ensures lacked { MatchRead result (TakesRead captures.old.ports.items captures.old.underlay index) ⊤ }
+    requires out { IsOutBefore captures.old.may_wait captures.old.ports.items captures.old.underlay next.index _outputs.now }
+    ensures fetched { FetchesFrom changes.now next.index next.done next.moment captures.old.ports.items captures.old.underlay
+        captures.new.ports.items captures.new.underlay when.new result }
+    ensures lacked { MatchRead result (TakesRead captures.old.ports.items captures.old.underlay next.index) ⊤ }
     ensures many { length captures.new.ports.items ≡ length captures.old.ports.items }
     ensures may_wait { captures.new.may_wait ≡ captures.old.may_wait }
 {
-    if index == 0 {
-        *next = moment_of(changes, done);
+    if next.index == 0 {
+        *when = moment_of(changes, next.done);
         return Ok(());
     }
-    if index <= captures.ports.len() {
-        return fetch(&mut captures.ports[index - 1], latest, next);
+    if next.index <= captures.ports.len() {
+        return fetch(&mut captures.ports[next.index - 1], next.moment, when);
     }
-    fetch(&mut captures.underlay, latest, next)
+    fetch(&mut captures.underlay, next.moment, when)
 }
 
 /// Whether the source with this index has to make a read for what comes next: a capture whose next record wasn't read ahead.

@@ -14,22 +14,23 @@ ghost use Rattle.std.specs.Prelude.{◌≡◌, ◌≢◌, ◌≤◌, ◌<◌, �
 ghost use Rattle.pcap.specs.Record.{last_moment};
 ghost use Rattle.pcap.specs.Sink.{Drain};
 ghost use Rattle.pcap.specs.Source.{holds_next, lent};
+ghost use Rattle.timeline.specs.Drains.{PortsOut};
 ghost use Rattle.timeline.specs.declared.source.Tap.{Tap as ATap};
 ghost use Rattle.endpoint_core.specs.Kept.{state_of};
 ghost use Rattle.capture_run.specs.Outputs.{Outputs as Texts};
 ghost use Rattle.stream_run.specs.Stage.{Drains, Lead, StandAt};
 ghost use Rattle.stream_run.specs.Steps.{IsAt, moment_at, source_at};
-ghost use Rattle.stream_run.specs.Waiting.{AllOut, IsOutBefore, IsOutOrAll, PortsOut};
+ghost use Rattle.stream_run.specs.Waiting.{AllOut, IsOutBefore, IsOutOrAll};
 ghost use Rattle.stream_run.specs.Watched.{IsWatchedTake};
 
 use crate::captures::Captures;
 use crate::fault::Target;
 use crate::fetch::takes_read;
-use crate::outputs::Outputs;
-use crate::part::{Next, Part, Taker};
+use crate::part::{Coming, Taker};
 use crate::take::take_at;
 use crate::watch::Watch;
 use pcap::stream::{Input, Output};
+use timeline::Outputs;
 
 /// How many ports a run has at most.
 const MOST_PORTS: usize = 255;
@@ -147,31 +148,33 @@ fn has_to_hand_on<R: Input, W: Output>(
 /// Takes the next event as [`take_at`] does, and hands on what is held back where it has to go on.
 #[inline(always)]
 pub fn take_and_hand_on<R: Input, W: Output, T: Watch>(
-    part: &Part,
+    coming: Coming,
     captures: &Captures<R>,
     outputs: &mut Outputs<W>,
     taker: &mut Taker,
-    next: Next,
     takes_all: bool,
     watch: &mut T,
 ) -> Result<(), Target>
-    requires time { (state_of taker.old.endpoint).moment ≤ next.moment }
-    requires moment { next.moment ≤ last_moment }
-    requires count { next.done + 1 < 2 ^ 64 }
-    requires index { next.index ≤ length captures.now.ports.items + 1 }
+    requires time { (state_of taker.old.endpoint).moment ≤ coming.next.moment }
+    requires moment { coming.next.moment ≤ last_moment }
+    requires count { coming.next.done + 1 < 2 ^ 64 }
+    requires index { coming.next.index ≤ length captures.now.ports.items + 1 }
     requires few { length captures.now.ports.items ≤ 255 }
     requires known { length captures.now.ports.items ≡ length (state_of taker.old.endpoint).bridges.settings.ports.ports }
-    requires change { next.index ≡ 0 → moment_at part.now.changes.now next.done ≡ Some next.moment }
-    requires lent { (place : ATap) → IsAt (length captures.now.ports.items) next.index place
+    requires change { coming.next.index ≡ 0 → moment_at coming.part.now.changes.now coming.next.done ≡ Some coming.next.moment }
+    requires lent { (place : ATap) → IsAt (length captures.now.ports.items) coming.next.index place
         → IsSome (lent (source_at captures.now.ports.items captures.now.underlay place).standing) }
-    ensures taken { IsWatchedTake part.now.segments.now T.sees part.now.changes.now captures.now.ports.items
-        captures.now.underlay next.index next.done next.moment taker.old.scratch.number (state_of taker.old.endpoint)
-        (state_of taker.new.endpoint)
+    ensures taken { IsWatchedTake coming.entry.part.now.segments.now T.sees coming.entry.part.now.changes.now
+        captures.now.ports.items captures.now.underlay coming.entry.next.index coming.entry.next.done coming.entry.next.moment
+        taker.old.scratch.number (state_of taker.old.endpoint) (state_of taker.new.endpoint)
         outputs.old outputs.new watch.old watch.new result }
     ensures number { taker.new.scratch.number ≡ taker.old.scratch.number }
-    ensures before { OnOk result (IsOutBefore captures.now.may_wait captures.now.ports.items captures.now.underlay next.index outputs.new) }
+    ensures turns { taker.new.turns ≡ taker.old.turns }
+    ensures before { OnOk result (IsOutBefore captures.now.may_wait captures.now.ports.items captures.now.underlay
+        coming.entry.next.index outputs.new) }
     ensures behind { OnOk result (IsOutOrAll takes_all captures.now.may_wait outputs.new) }
 {
+    let Coming { part, next } = coming;
     if let Err(target) = take_at(part, captures, outputs, taker, next, watch) {
         return Err(target);
     }

@@ -11,12 +11,11 @@ ghost use Rattle.stream_run.specs.Watched.{IsSieved};
 use crate::captures::Captures;
 use crate::fault::Target;
 use crate::hand_on::take_and_hand_on;
-use crate::outputs::Outputs;
-use crate::part::{Next, Part, Taker};
+use crate::part::{Coming, Next, Taker};
 use crate::sieve::Sieve;
 use crate::watch::Watch;
 use pcap::stream::{Input, Output, Source};
-use timeline::{Captured, Event, Happening, Tap};
+use timeline::{Captured, Event, Happening, Outputs, Tap};
 
 /// The event of the record that a source lends.
 #[inline(always)]
@@ -66,36 +65,38 @@ fn next_event<R: Input>(captures: &Captures<R>, next: Next) -> Event<'_>
 /// Asks the sieve about the next event. Where it takes it in, the event is numbered and taken as [`take_and_hand_on`] does it;
 /// else nothing is done.
 pub fn let_in<R: Input, W: Output, S: Sieve, T: Watch>(
-    part: &Part,
+    coming: Coming,
     captures: &Captures<R>,
     outputs: &mut Outputs<W>,
     taker: &mut Taker,
-    next: Next,
     sieve: &mut S,
     watch: &mut T,
 ) -> Result<(), Target>
-    requires time { (state_of taker.old.endpoint).moment ≤ next.moment }
-    requires moment { next.moment ≤ last_moment }
-    requires count { next.done + 1 < 2 ^ 64 }
+    requires time { (state_of taker.old.endpoint).moment ≤ coming.next.moment }
+    requires moment { coming.next.moment ≤ last_moment }
+    requires count { coming.next.done + 1 < 2 ^ 64 }
     requires numbers { taker.old.scratch.number + 1 < 2 ^ 64 }
-    requires index { next.index ≤ length captures.now.ports.items + 1 }
+    requires index { coming.next.index ≤ length captures.now.ports.items + 1 }
     requires few { length captures.now.ports.items ≤ 255 }
     requires known { length captures.now.ports.items ≡ length (state_of taker.old.endpoint).bridges.settings.ports.ports }
-    requires change { next.index ≡ 0 → moment_at part.now.changes.now next.done ≡ Some next.moment }
-    requires lent { (place : ATap) → IsAt (length captures.now.ports.items) next.index place
+    requires change { coming.next.index ≡ 0 → moment_at coming.part.now.changes.now coming.next.done ≡ Some coming.next.moment }
+    requires lent { (place : ATap) → IsAt (length captures.now.ports.items) coming.next.index place
         → IsSome (lent (source_at captures.now.ports.items captures.now.underlay place).standing) }
     requires out { IsOutOrAll (S.all sieve.old) captures.now.may_wait outputs.old }
-    ensures before { OnOk result (IsOutBefore captures.now.may_wait captures.now.ports.items captures.now.underlay next.index outputs.new) }
+    ensures before { OnOk result (IsOutBefore captures.now.may_wait captures.now.ports.items captures.now.underlay
+        coming.entry.next.index outputs.new) }
     ensures behind { OnOk result (IsOutOrAll (S.all sieve.new) captures.now.may_wait outputs.new) }
-    ensures sieved { IsSieved part.now.segments.now S.taken S.goes T.sees part.now.changes.now captures.now.ports.items
-        captures.now.underlay next.index next.done next.moment taker.old.scratch.number taker.new.scratch.number
+    ensures sieved { IsSieved coming.entry.part.now.segments.now S.taken S.goes T.sees coming.entry.part.now.changes.now
+        captures.now.ports.items captures.now.underlay coming.entry.next.index coming.entry.next.done coming.entry.next.moment
+        taker.old.scratch.number taker.new.scratch.number
         (state_of taker.old.endpoint) (state_of taker.new.endpoint) outputs.old outputs.new sieve.old sieve.new watch.old watch.new result }
+    ensures turns { taker.new.turns ≡ taker.old.turns }
 {
-    let event = next_event(captures, next);
+    let event = next_event(captures, coming.next);
     if !sieve.takes(&event) {
         return Ok(());
     }
     taker.scratch.number.add_one();
     let takes_all = sieve.takes_all();
-    take_and_hand_on(part, captures, outputs, taker, next, takes_all, watch)
+    take_and_hand_on(coming, captures, outputs, taker, takes_all, watch)
 }

@@ -1,5 +1,5 @@
 //! What the steps of a run are lent.
-use crate::turn::First;
+use crate::turn::Turn;
 use decision_lines::Scratch;
 use endpoint_core::Endpoint;
 use overlay_config::TimedChange;
@@ -12,27 +12,29 @@ pub struct Part<'a> {
     pub segments: &'a SegmentSet,
 }
 
-/// The event that comes first, in a part of a run.
-#[derive(Clone, Copy)]
-pub struct Coming<'a> {
-    pub part: &'a Part<'a>,
-    pub first: First,
-}
-
-/// The next event of a run.
+/// What comes next of a source of a run.
 #[derive(Clone, Copy)]
 pub struct Next {
-    /// Where its source stands: the changes, the ports, the underlay.
+    /// Where the source stands: the changes, the ports, the underlay.
     pub index: usize,
-    /// In nanoseconds.
+    /// When it comes, in nanoseconds; where it has to be asked for, no sooner than this.
     pub moment: u64,
-    /// How many events of its source came before.
+    /// How many events of the source came before.
     pub done: u64,
 }
 
-/// Who takes the events of a run: the endpoint, and the scratch at which its decisions are written.
+/// The event that comes next, in a part of a run.
+#[derive(Clone, Copy)]
+pub struct Coming<'a> {
+    pub part: &'a Part<'a>,
+    pub next: Next,
+}
+
+/// Who takes the events of a run: where its sources stand, the endpoint, and the scratch at which its decisions are written.
 #[derive(Drop)]
 pub struct Taker {
+    /// Of the changes, of the ports and of the underlay.
+    pub turns: Vec<Turn>,
     pub endpoint: Endpoint,
     pub scratch: Scratch,
     /// How many octets the line of an event may have, by the ports and by the limit of flood lists, which no change changes.

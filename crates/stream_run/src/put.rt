@@ -20,13 +20,12 @@ ghost use Rattle.stream_run.specs.Lines.{LineLeads};
 ghost use Rattle.stream_run.specs.Stage.{Drains, Lead, StandAt};
 
 use crate::fault::Target;
-use crate::outputs::Outputs;
 use decision_lines::{Line, Scratch};
 use encapsulate::Head;
 use endpoint_core::{Arrival, Endpoint, Forwarding};
 use filter_db::Place;
 use pcap::stream::Output;
-use timeline::Event;
+use timeline::{Event, Outputs};
 use wire::ip_udp::{Addr, Tunnel};
 
 /// A frame that leaves: the endpoint that took it, and when.
@@ -35,6 +34,13 @@ struct Leaving<'a> {
     endpoint: &'a Endpoint,
     came: &'a Arrival<'a>,
     moment: u64,
+}
+
+/// A remote endpoint: of which kind the tunnel to it is, and its address.
+#[derive(Clone, Copy)]
+struct Peer {
+    kind: Tunnel,
+    addr: Addr,
 }
 
 /// Puts a record with a frame's addresses, a tag and the frame's body into the capture of a port, where there is one of this
@@ -150,27 +156,28 @@ fn put_local<W: Output>(
 fn put_remote<W: Output>(
     outputs: &mut Outputs<W>,
     leaving: &Leaving,
-    kind: Tunnel,
-    addr: Addr,
+    peer: Peer,
     is_first: bool,
     head: &mut Head,
     line: &mut Line,
 ) -> Result<(), Target>
     requires moment { leaving.now.moment ≤ last_moment }
     requires there { IsSome (segment_at (state_of leaving.now.endpoint.now).bridges.settings leaving.now.came.now.vid) }
-    requires leave { IsTrue (can_leave (state_of leaving.now.endpoint.now).bridges.settings leaving.now.came.now.vid (Remote kind addr)) }
+    requires leave { IsTrue (can_leave (state_of leaving.now.endpoint.now).bridges.settings leaving.now.came.now.vid
+        (Remote peer.kind peer.addr)) }
     requires short { length leaving.now.came.now.frame.body ≤ 65549 }
     requires room { length line.old + 77 ≤ 65536 }
     ensures sent { let S = (state_of leaving.now.endpoint.now).bridges.settings in
         (start : Drains) (o : Texts) → StandAt start outputs.old o
         → Lead start outputs.new o (with_sent leaving.now.moment o
-        (sent_at S leaving.now.came.now.vid leaving.now.came.now.frame (Remote kind addr))) result }
+        (sent_at S leaving.now.came.now.vid leaving.now.came.now.frame (Remote peer.kind peer.addr))) result }
     ensures line { let S = (state_of leaving.now.endpoint.now).bridges.settings in
         OnOk result (line.new ≡ line.old ++ (gap is_first
         ++ outcome_text (has_two_tunnels S.overlay leaving.now.came.now.vid)
-        (sent_at S leaving.now.came.now.vid leaving.now.came.now.frame (Remote kind addr)))) }
+        (sent_at S leaving.now.came.now.vid leaving.now.came.now.frame (Remote peer.kind peer.addr)))) }
     ensures len { OnOk result (length line.new ≤ length line.old + 77) }
 {
+    let Peer { kind, addr } = peer;
     let count = match leaving.endpoint.put_head(leaving.came, kind, addr, head) {
         Ok(()) => {
             let frame = leaving.came.frame();
@@ -221,7 +228,11 @@ fn put_place<W: Output>(
     match place {
         Place::Local(port) => put_local(outputs, leaving, *port, is_first, line),
         Place::Remote(kind, addr) => {
-            put_remote(outputs, leaving, *kind, *addr, is_first, head, line)
+            let peer = Peer {
+                kind: *kind,
+                addr: *addr,
+            };
+            put_remote(outputs, leaving, peer, is_first, head, line)
         }
     }
 }

@@ -22,17 +22,16 @@ use crate::cuts::put_cuts_among;
 use crate::fault::StreamFault;
 use crate::job::Job;
 use crate::opening::open_all;
-use crate::outputs::Outputs;
 use crate::part::{Part, Taker};
 use crate::sieve::Sieve;
 use crate::step::put_events;
-use crate::turn::Turn;
 use crate::watch::Watch;
 use capture_run::RunFault;
 use decision_lines::{Scratch, most_of_a_line};
 use endpoint_core::Endpoint;
 use pcap::stream::{Input, Output};
 use std::alloc::Global;
+use timeline::Outputs;
 
 /// Runs an endpoint with the settings of a text over the captures of its local ports, port 1 first, and of its underlay,
 /// with the changes of a text at their moments. Both texts were read before; no text is read here.
@@ -130,7 +129,7 @@ fn run_with<R: Input, W: Output, S: Sieve, T: Watch>(
         ..
     } = job;
     let part = Part { changes, segments };
-    let Ok(mut turns) = first_turns(alloc, part.changes, captures.ports.len() + 1) else {
+    let Ok(turns) = first_turns(alloc, part.changes, captures.ports.len() + 1) else {
         return Err(StreamFault::Run(RunFault::OutOfMemory));
     };
     let Ok(endpoint) = Endpoint::open(alloc, settings) else {
@@ -138,26 +137,18 @@ fn run_with<R: Input, W: Output, S: Sieve, T: Watch>(
     };
     let flood = endpoint.under().settings().limits.flood;
     let mut taker = Taker {
+        turns,
         endpoint,
         scratch: Scratch::new(),
         most_of_a_line: most_of_a_line(captures.ports.len(), flood),
     };
-    run_on(
-        &part,
-        captures,
-        turns.as_mut_slice(),
-        &mut taker,
-        outputs,
-        sieve,
-        watch,
-    )
+    run_on(&part, captures, &mut taker, outputs, sieve, watch)
 }
 
 /// The run with an endpoint that was opened just now, whose steps are lent what they need.
 fn run_on<R: Input, W: Output, S: Sieve, T: Watch>(
     part: &Part,
     captures: &mut Captures<R>,
-    turns: &mut [Turn],
     taker: &mut Taker,
     outputs: &mut Outputs<W>,
     sieve: &mut S,
@@ -165,7 +156,7 @@ fn run_on<R: Input, W: Output, S: Sieve, T: Watch>(
 ) -> Result<(), StreamFault>
     requires few { length captures.old.ports.items ≤ 255 }
     requires opened { CanBegin captures.old.ports.items (state_of taker.old.endpoint) }
-    requires turns { turns.old ≡ first_turns part.now.changes.now (length captures.old.ports.items + 1) }
+    requires turns { taker.old.turns.items ≡ first_turns part.now.changes.now (length captures.old.ports.items + 1) }
     requires number { taker.old.scratch.number ≡ 0 }
     requires sinks { length outputs.old.ports ≡ length captures.old.ports.items }
     requires timely { AreTimely part.now.changes.now }
@@ -185,12 +176,14 @@ fn run_on<R: Input, W: Output, S: Sieve, T: Watch>(
     if let Err(target) = begin_all(outputs, captures.may_wait) {
         return Err(StreamFault::Write(target));
     }
+    let turns = taker.turns.as_mut_slice();
     if let Err(fault) = fetch_all(part.changes, captures, outputs, turns) {
         return Err(fault);
     }
-    if let Err(fault) = put_events(part, captures, turns, taker, outputs, sieve, watch) {
+    if let Err(fault) = put_events(part, captures, taker, outputs, sieve, watch) {
         return Err(fault);
     }
+    let turns = taker.turns.as_slice();
     let line = &mut taker.scratch.line;
     match put_cuts_among(part.segments, captures, turns, line, outputs) {
         Ok(()) => {

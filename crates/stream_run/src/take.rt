@@ -24,7 +24,6 @@ ghost use Rattle.stream_run.specs.Watched.{IsWatchedTake};
 
 use crate::captures::Captures;
 use crate::fault::Target;
-use crate::outputs::Outputs;
 use crate::part::{Next, Part, Taker};
 use crate::put::{put_forwarding, put_line};
 use crate::watch::Watch;
@@ -33,7 +32,7 @@ use endpoint_core::{Endpoint, Forwarding, nothing_came, segment_of};
 use overlay_config::{Change, TimedChange};
 use pcap::stream::{Input, Output, Source};
 use segment_set::SegmentSet;
-use timeline::{Captured, Event, Happening, Tap};
+use timeline::{Captured, Event, Happening, Outputs, Tap};
 
 /// Shows a change, puts it to the endpoint, tells its reply, and puts what comes of it to the outputs.
 pub fn take_change<W: Output, T: Watch>(
@@ -67,6 +66,7 @@ pub fn take_change<W: Output, T: Watch>(
 
 /// Shows a frame or a packet that came to a segment, or to none, as the endpoint tells it; puts it to the endpoint, tells what
 /// is decided, and puts what comes of it to the outputs.
+#[inline(always)]
 fn take_came<W: Output, T: Watch>(
     outputs: &mut Outputs<W>,
     endpoint: &mut Endpoint,
@@ -104,11 +104,11 @@ fn take_came<W: Output, T: Watch>(
 
 /// Takes the frame that a port's source lends, behind so many others: where it is told to these segments, it's shown, put to the
 /// endpoint, and what comes of it to the outputs; else it's shown as passed over, and time passes.
+#[inline(always)]
 pub fn take_frame<R: Input, W: Output, T: Watch>(
     source: &Source<R>,
     outputs: &mut Outputs<W>,
     taker: &mut Taker,
-    port: u8,
     next: Next,
     segments: &SegmentSet,
     watch: &mut T,
@@ -116,26 +116,29 @@ pub fn take_frame<R: Input, W: Output, T: Watch>(
     requires time { (state_of taker.old.endpoint).moment ≤ next.moment }
     requires moment { next.moment ≤ last_moment }
     requires count { next.done + 1 < 2 ^ 64 }
-    requires low { 1 ≤ port }
-    requires high { port ≤ length (state_of taker.old.endpoint).bridges.settings.ports.ports }
+    requires low { 1 ≤ next.index }
+    requires high { next.index ≤ length (state_of taker.old.endpoint).bridges.settings.ports.ports }
+    requires few { next.index ≤ 255 }
     requires lent { IsSome (lent source.now.standing) }
     ensures state { (r : ARecord) → lent source.now.standing ≡ Some r → state_of taker.new.endpoint
-        ≡ after_among segments.now (state_of taker.old.endpoint) (frame_at next.moment port r.original r.octets) }
+        ≡ after_among segments.now (state_of taker.old.endpoint) (frame_at next.moment next.index r.original r.octets) }
     ensures outputs { (r : ARecord) (start : Drains) (o : Texts) → lent source.now.standing ≡ Some r
         → StandAt start outputs.old o
         → Lead start outputs.new o
         (with_input_among segments.now taker.old.scratch.number None (state_of taker.old.endpoint) o
-        (record_event (Port port) next.done next.moment r) (frame_at next.moment port r.original r.octets)) result }
+        (record_event (Port next.index) next.done next.moment r) (frame_at next.moment next.index r.original r.octets)) result }
     ensures order { (r : ARecord) (start : Drains) (o : Texts) → lent source.now.standing ≡ Some r
         → StandAt start outputs.old o
         → PutsInOrder start outputs.new taker.old.scratch.number None o
-        (record_event (Port port) next.done next.moment r)
-        (answer (state_of taker.old.endpoint) (frame_at next.moment port r.original r.octets)) result }
+        (record_event (Port next.index) next.done next.moment r)
+        (answer (state_of taker.old.endpoint) (frame_at next.moment next.index r.original r.octets)) result }
     ensures number { taker.new.scratch.number ≡ taker.old.scratch.number }
+    ensures turns { taker.new.turns ≡ taker.old.turns }
     ensures seen { (r : ARecord) → lent source.now.standing ≡ Some r
         → T.sees watch.old (seen_among segments.now (state_of taker.old.endpoint) taker.old.scratch.number
-        (record_event (Port port) next.done next.moment r) (frame_at next.moment port r.original r.octets)) watch.new }
+        (record_event (Port next.index) next.done next.moment r) (frame_at next.moment next.index r.original r.octets)) watch.new }
 {
+    let port = next.index as u8;
     let record = source.head().unwrap();
     let mut came = nothing_came();
     taker
@@ -169,6 +172,7 @@ pub fn take_frame<R: Input, W: Output, T: Watch>(
 
 /// Takes the packet that the underlay's source lends, behind so many others: where it is told to these segments, it's shown, put
 /// to the endpoint, and what comes of it to the outputs; else it's shown as passed over, and time passes.
+#[inline(always)]
 pub fn take_packet<R: Input, W: Output, T: Watch>(
     source: &Source<R>,
     outputs: &mut Outputs<W>,
@@ -194,6 +198,7 @@ pub fn take_packet<R: Input, W: Output, T: Watch>(
         (record_event Underlay next.done next.moment r)
         (answer (state_of taker.old.endpoint) (packet_at next.moment r.original r.octets)) result }
     ensures number { taker.new.scratch.number ≡ taker.old.scratch.number }
+    ensures turns { taker.new.turns ≡ taker.old.turns }
     ensures seen { (r : ARecord) → lent source.now.standing ≡ Some r
         → T.sees watch.old (seen_among segments.now (state_of taker.old.endpoint) taker.old.scratch.number
         (record_event Underlay next.done next.moment r) (packet_at next.moment r.original r.octets)) watch.new }
@@ -231,6 +236,7 @@ pub fn take_packet<R: Input, W: Output, T: Watch>(
 
 /// Takes the next event of a source, and shows it, as passed over where it isn't told to the part's segments: the changes, the
 /// ports, the underlay.
+#[inline(always)]
 pub fn take_at<R: Input, W: Output, T: Watch>(
     part: &Part,
     captures: &Captures<R>,
@@ -253,6 +259,7 @@ pub fn take_at<R: Input, W: Output, T: Watch>(
         (state_of taker.new.endpoint)
         outputs.old outputs.new watch.old watch.new result }
     ensures number { taker.new.scratch.number ≡ taker.old.scratch.number }
+    ensures turns { taker.new.turns ≡ taker.old.turns }
 {
     if next.index == 0 {
         return take_change_at(part, outputs, taker, next, watch);
@@ -262,7 +269,6 @@ pub fn take_at<R: Input, W: Output, T: Watch>(
             &captures.ports[next.index - 1],
             outputs,
             taker,
-            next.index as u8,
             next,
             part.segments,
             watch,
@@ -295,6 +301,7 @@ fn take_change_at<W: Output, T: Watch>(
         taker.old.scratch.number (state_of taker.old.endpoint) (state_of taker.new.endpoint)
         outputs.old outputs.new watch.old watch.new result }
     ensures number { taker.new.scratch.number ≡ taker.old.scratch.number }
+    ensures turns { taker.new.turns ≡ taker.old.turns }
 {
     let event = Event {
         moment: next.moment,

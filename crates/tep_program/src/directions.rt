@@ -49,12 +49,16 @@ pub fn records_at<L: LeavesOut>(counts: &RunCounts, sieve: &L, taps: &[Tap]) -> 
     records
 }
 
-/// Tells of the captures of so many ports and of the underlay how many records were left out.
+/// Tells of the captures of so many ports and of the underlay how many records were left out, and below that what was forgotten
+/// for want of room.
 pub fn tell_left_out(rt: &impl Eprint, sieve: &BothWays, ports: usize) {
     for index in 0..ports {
         tell_left_out_at(rt, sieve, tap_of(index));
     }
     tell_left_out_at(rt, sieve, Tap::Underlay);
+    if let Some(line) = sieve.forgotten_line() {
+        let _ = eprintln!(rt; "  {line}");
+    }
 }
 
 /// Tells how many records of a capture were left out, if any.

@@ -18,7 +18,6 @@
 #![tactic(auto)]
 
 mod directions;
-mod nobody;
 mod objects_file;
 mod outbound;
 mod program;

@@ -6,7 +6,6 @@ ghost use Rattle.program_faults.specs.Status.{failure_status_of};
 ghost use Rattle.tep_program.specs.Status.{IsDoneStatus, IsStatusOf, first_no_event, no_event_in};
 
 use crate::directions::within_of;
-use crate::nobody::Nobody;
 use crate::told_runs::{Asked, run_and_tell};
 use capture_run::{RunFault, of_settings};
 use check_on_files::check;
@@ -191,7 +190,6 @@ fn perform<'a, R: Files + Input + AllocGlobal + Print + Eprint + Clock + Screen>
             json,
         } => check(
             rt,
-            &mut Nobody,
             Shown::of(*json, Kind::Looks),
             *settings,
             *changes,
@@ -321,6 +319,7 @@ fn perform<'a, R: Files + Input + AllocGlobal + Print + Eprint + Clock + Screen>
 }
 
 /// Makes parts the whole run, and prints what it tells besides.
+#[inline(never)]
 fn merge_and_tell<'a, R: Files + AllocGlobal + Print>(
     rt: &R,
     out: &str,
@@ -338,12 +337,14 @@ fn merge_and_tell<'a, R: Files + AllocGlobal + Print>(
 }
 
 /// Prints the decision lines of the sample.
+#[inline(never)]
 fn print_sample<R: AllocGlobal + Print>(rt: &R) -> Result<(), Failure<'static>> {
     let lines = sample(rt.alloc())?;
     print_text(rt, lines.as_slice())
 }
 
 /// Prints a settings text as one of version 2.
+#[inline(never)]
 fn print_migrated<'a, R: Files + AllocGlobal + Print>(
     rt: &R,
     settings: &'a str,
@@ -356,6 +357,7 @@ fn print_migrated<'a, R: Files + AllocGlobal + Print>(
 }
 
 /// Prints how the packets of a capture are made up, and what is decided of them.
+#[inline(never)]
 fn explain<'a, R: Files + Input + AllocGlobal + Print>(
     rt: &R,
     shown: Shown,

@@ -4,17 +4,16 @@ ghost use Rattle.overlay_config.specs.Change.{IsRising, changes_in};
 ghost use Rattle.overlay.specs.Rules.{EachBehind};
 
 use crate::directions::{LeavesOut, tell_left_out};
-use crate::nobody::Nobody;
 use crate::objects_file::{RunObjects, finish_objects, leave_objects, objects_of_run};
 use crate::outbound::tell_outbound;
 use crate::progress::progress_of;
 use crate::told_texts::{LookedOn, print_told, tell_all};
-use both_ways::sieve_of;
+use both_ways::{Nobody, sieve_of};
 use overlay_config::TimedChange;
 use program_faults::Failure;
 use program_files::{Destination, FailedOutputs, Names};
 use run_counts::RunCounts;
-use run_progress::{Beside as BesideProgress, Progress, Screen};
+use run_progress::{Progress, Screen, WithProgress};
 use run_reports::{Onlooker, Reports};
 use runs_on_files::{Job, ListedPart, Ran, Scope, Texts, run_on_files};
 use segment_set::SegmentSet;
@@ -103,8 +102,7 @@ pub fn run_and_tell<'a, R: Files + Input + AllocGlobal + Print + Eprint + Clock 
     Ok(())
 }
 
-/// Runs on all of captures, and prints what is asked for besides. Who asks for nothing, and sees no progress, pays nothing for it:
-/// then nobody looks on.
+/// Runs on all of captures, and prints what is asked for besides. Who asks for nothing, and sees no progress, pays nothing for it.
 fn run_plain<'r, 'a, R: Files + Input + AllocGlobal + Print + Eprint + Clock>(
     rt: &'r R,
     job: AskedJob<'_, '_, 'a>,
@@ -120,6 +118,7 @@ fn run_plain<'r, 'a, R: Files + Input + AllocGlobal + Print + Eprint + Clock>(
 }
 
 /// Runs on what a sieve takes in of captures, and prints what is asked for besides. The sieve comes back.
+#[inline(never)]
 fn run_taken<
     'r,
     'a,
@@ -148,6 +147,7 @@ fn run_taken<
 }
 
 /// The same where nothing is told behind it: its objects are written, and how far it is is shown.
+#[inline(never)]
 fn run_shown<
     'r,
     't,
@@ -160,7 +160,7 @@ fn run_shown<
     job: AskedJob<'_, '_, 'a>,
     changes: Option<&'t [TimedChange]>,
     sieve: S,
-    shown: BesideProgress<'r, Beside<T, RunObjects<'r, 't, R>>, R>,
+    shown: WithProgress<'r, Beside<T, RunObjects<'r, 't, R>>, R>,
     failed: &mut FailedOutputs,
 ) -> Result<(Ran<R::File>, S), Failure<'a>>
     requires told { IfSome changes (λ t. changes_in job.texts.now.changes.items ≡ Ok t.now) }
@@ -170,7 +170,7 @@ fn run_shown<
     let mut sieve = sieve;
     let run = run_asked(rt, job, changes, &mut sieve, &mut shown, failed);
     shown.finish();
-    let BesideProgress { watch, .. } = shown;
+    let WithProgress { watch, .. } = shown;
     let Beside { other: objects, .. } = watch;
     match run {
         Ok(ran) => {
@@ -201,6 +201,7 @@ fn finished<'a, F: Write + Drop>(run: Result<Ran<F>, Failure<'a>>) -> Result<Ran
 }
 
 /// The same where something is asked for: someone looks on, so that runs which nobody looks on at have steps for themselves.
+#[inline(never)]
 fn run_watched<
     'r,
     't,
@@ -231,7 +232,7 @@ fn run_watched<
     let mut sieve = sieve;
     let run = run_asked(rt, job, changes, &mut sieve, &mut beside, failed);
     beside.finish();
-    let BesideProgress { watch, .. } = beside;
+    let WithProgress { watch, .. } = beside;
     let Beside {
         watch,
         other: objects,
@@ -275,8 +276,8 @@ fn shown_to<'r, 'c, R: Files, T>(
     watch: T,
     objects: Option<RunObjects<'r, 'c, R>>,
     progress: Option<Progress<'r, R>>,
-) -> BesideProgress<'r, Beside<T, RunObjects<'r, 'c, R>>, R> {
-    BesideProgress {
+) -> WithProgress<'r, Beside<T, RunObjects<'r, 'c, R>>, R> {
+    WithProgress {
         watch: Beside {
             watch,
             other: objects,
@@ -328,8 +329,7 @@ fn talkers_of(alloc: Global, asked: Asked<'_, '_>) -> Result<Option<Talkers>, Al
     }
 }
 
-/// Runs on captures, all segments, or those of a list as a part, and writes nothing where no folder is named. `changes`
-/// are those of their text, where it was read before.
+/// Runs on captures, all segments or a part's, and writes nothing where no folder is named. `changes` are those read before.
 fn run_asked<'a, R: Files + Input + AllocGlobal, S: Sieve, T: Watch>(
     rt: &R,
     job: AskedJob<'_, '_, 'a>,

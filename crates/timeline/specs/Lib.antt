@@ -5,3 +5,4 @@ pub mod Faults
 pub mod Events
 pub mod Order
 pub mod Timeline
+pub mod Drains

@@ -3,9 +3,10 @@
 //!
 //! Use first: [`Timeline::read`] opens the captures of the local ports and of the underlay, reads their records
 //! (pcap-savefile(5)) and puts them, with the changes, in order of moment. Each [`Event`] says what happens when, and where it
-//! stands in its [`Source`]; the octets of a record stay a slice of its capture.
+//! stands in its [`Source`]; the octets of a record stay a slice of its capture. [`Outputs`] is where a run writes what comes of
+//! them, or a merge of its parts.
 //!
-//! Specs to read, in order: `specs/Inputs`, `specs/Faults`, `specs/Events`, `specs/Order`, `specs/Timeline`.
+//! Specs to read, in order: `specs/Inputs`, `specs/Faults`, `specs/Events`, `specs/Order`, `specs/Timeline`, `specs/Drains`.
 //!
 //! Proved: changes and records are put in order of moment, of one moment the changes, the ports rising and the underlay; or the
 //! first fault is answered, of the openings, then of the records; unless memory was refused. There is one such order, a
@@ -29,10 +30,12 @@ mod event;
 mod fault;
 pub mod laws;
 mod order;
+mod outputs;
 mod source;
 mod timeline;
 
 pub use event::{Captured, Event, Happening};
 pub use fault::TimelineFault;
+pub use outputs::Outputs;
 pub use source::{Source, Tap};
 pub use timeline::{Cut, Timeline};

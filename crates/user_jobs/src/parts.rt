@@ -234,26 +234,22 @@ fn merge(alloc: Global, digest: &mut Digest, written: &[Written]) -> Result<(), 
     for _port in 0..PORTS {
         sinks.push(Sink::new(BlockOutput::new(alloc, DigestOutput::new(), BLOCK)?))?;
     }
-    let mut underlay = Sink::new(BlockOutput::new(alloc, DigestOutput::new(), BLOCK)?);
-    let mut decisions = BlockOutput::new(alloc, DigestOutput::new(), BLOCK)?;
     if sinks.len() > 255 {
         return Err(JobFault::Failed(Stage::Merge));
     }
-    let merged = merge_streams(
-        parts.as_mut_slice(),
-        sinks.as_mut_slice(),
-        &mut underlay,
-        &mut decisions,
-        false,
-    );
-    if merged.is_err() {
+    let mut outputs = Outputs {
+        ports: sinks,
+        underlay: Sink::new(BlockOutput::new(alloc, DigestOutput::new(), BLOCK)?),
+        decisions: BlockOutput::new(alloc, DigestOutput::new(), BLOCK)?,
+    };
+    if merge_streams(parts.as_mut_slice(), &mut outputs, false).is_err() {
         return Err(JobFault::Failed(Stage::Merge));
     }
-    for sink in sinks {
+    for sink in outputs.ports {
         add_output(digest, sink.into_inner());
     }
-    add_output(digest, underlay.into_inner());
-    add_output(digest, decisions);
+    add_output(digest, outputs.underlay.into_inner());
+    add_output(digest, outputs.decisions);
     Ok(())
 }
 

@@ -1,9 +1,10 @@
 //! The key of a record: two records are the same where their keys are.
-ghost use Rattle.std.specs.Prelude.{◌≡◌, ◌≤◌, ◌+◌, ◌++◌, ◌∷◌, [], ℕ, List, false, true, IfOk, length, vec_capacity};
-ghost use Rattle.capture_compare.specs.Key.{carried_key, carried_text, counted, goes_to_reserved, held_by, is_ignored, key_by, keyed, mark};
+ghost use Rattle.std.specs.Prelude.{◌≡◌, ◌≤◌, ◌+◌, ◌-◌, ◌++◌, ◌∷◌, [], ℕ, List, false, true, IfOk, length, vec_capacity};
+ghost use Rattle.capture_compare.specs.Key.{carried_key, carried_text, counted, goes_to_reserved, held_by, is_ignored, key_in};
+ghost use Rattle.capture_compare.specs.Key.{keyed, mark};
 ghost use Rattle.wire.specs.Addr.{address};
 
-use crate::carried::tunnelled::{Tunnelled, tunnelled_in};
+use crate::carried::tunnelled::{Tunnelled, tunnelled_whole};
 use crate::carried::tunnels::Tunnels;
 use std::alloc::{AllocError, Global};
 use std::marker::Model;
@@ -30,15 +31,15 @@ pub struct Manner {
 pub enum Sameness {
     /// All their octets.
     Whole,
-    /// What they carry in one of these tunnels and between whom, where both are packets of a tunnel; else all their octets.
+    /// What they carry in one of these tunnels and between whom, where both are whole packets of a tunnel; else all their octets.
     Carried(Tunnels),
 }
 
 impl Sameness {
     /// Those of the underlay: strictly all octets, else what is carried in these tunnels.
     pub fn of_underlay(tunnels: Tunnels, strict: bool) -> Sameness
-        ensures strict { strict ≡ true → (b : List ℕ) → keyed result b ≡ b }
-        ensures carried { strict ≡ false → (b : List ℕ) → keyed result b ≡ carried_key tunnels b }
+        ensures strict { strict ≡ true → (missing : ℕ) (b : List ℕ) → keyed result missing b ≡ b }
+        ensures carried { strict ≡ false → (missing : ℕ) (b : List ℕ) → keyed result missing b ≡ carried_key tunnels missing b }
     {
         if strict {
             Sameness::Whole
@@ -67,6 +68,23 @@ fn goes_to_reserved(octets: &[u8]) -> bool
     }
 }
 
+/// The key of a record.
+#[derive(Clone, Copy)]
+pub(crate) struct Key<'a> {
+    /// What is compared.
+    pub(crate) octets: &'a [u8],
+    /// How many octets of the record are missing.
+    pub(crate) missing: u32,
+}
+
+/// How many octets of a record weren't captured, by its original length and those that were.
+pub(crate) fn missing_of(original: u32, octets: &[u8]) -> u32
+    requires { length octets.now ≤ 262144 }
+    ensures { result ≡ original - length octets.now }
+{
+    original.saturating_sub(octets.len() as u32)
+}
+
 /// Room for the key of one record at a time, seen by contracts as what it holds.
 #[derive(Drop)]
 pub struct KeyRoom {
@@ -93,39 +111,38 @@ impl KeyRoom {
         })
     }
 
-    /// Makes the key of a record, of at most 262,144 octets.
-    pub fn put(&mut self, manner: &Manner, octets: &[u8])
+    /// Makes the key of a record with at most 262,144 octets, of which so many more are missing.
+    pub fn put(&mut self, sameness: &Sameness, octets: &[u8], missing: u32)
         requires { length octets.now ≤ 262144 }
-        ensures { self.new ≡ held_by manner.now octets.now }
+        ensures { self.new ≡ held_by sameness.now missing octets.now }
     {
         self.text.clear();
-        match &manner.sameness {
+        match sameness {
             Sameness::Whole => {}
-            Sameness::Carried(tunnels) => write_key(&mut self.text, tunnels, octets),
+            Sameness::Carried(tunnels) => write_key(&mut self.text, tunnels, octets, missing),
         }
     }
 
-    /// The key of the record that was put last.
-    pub fn key<'a>(&'a self, manner: &Manner, octets: &'a [u8]) -> &'a [u8]
-        requires { self.now ≡ held_by manner.now octets.now }
-        ensures { result.now ≡ key_by manner.now octets.now }
+    /// The key of a record with these octets, which was put last.
+    pub fn key<'a>(&'a self, sameness: &Sameness, octets: &'a [u8]) -> &'a [u8]
+        ensures { result.now ≡ key_in sameness.now octets.now self.now }
     {
-        match &manner.sameness {
+        match sameness {
             Sameness::Whole => octets,
             Sameness::Carried(_) => self.text.as_slice(),
         }
     }
 }
 
-/// Writes the key of a packet by what it carries.
-fn write_key(text: &mut Vec<u8>, tunnels: &Tunnels, octets: &[u8])
+/// Writes the key of a packet by what it carries, where so many octets of it are missing.
+fn write_key(text: &mut Vec<u8>, tunnels: &Tunnels, octets: &[u8], missing: u32)
     requires empty { text.old.items ≡ [] }
     requires room { 262656 ≤ vec_capacity text.old }
     requires short { length octets.now ≤ 262144 }
-    ensures items { text.new.items ≡ carried_key tunnels.now octets.now }
+    ensures items { text.new.items ≡ carried_key tunnels.now missing octets.now }
     ensures capacity { vec_capacity text.old ≤ vec_capacity text.new }
 {
-    match tunnelled_in(tunnels, octets) {
+    match tunnelled_whole(tunnels, octets, missing) {
         Some(carried) => write_carried(text, &carried),
         None => write_whole(text, octets),
     }

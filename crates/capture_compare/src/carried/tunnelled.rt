@@ -1,6 +1,6 @@
 //! What a packet carries in a tunnel.
 ghost use Rattle.std.specs.Prelude.{◌≡◌, ◌≤◌, [], IfSome, drop, length};
-ghost use Rattle.capture_compare.specs.Tunnelled.{carried_at, carried_by, carried_in, kind_in, tunnelled};
+ghost use Rattle.capture_compare.specs.Tunnelled.{carried_at, carried_by, carried_in, kind_in, tunnelled, tunnelled_whole};
 ghost use Rattle.wire.specs.Udp.{SplitsUdp, data_of};
 ghost use Rattle.wire.specs.declared.ip_udp.addr.Tunnel.TheVariants as kinds;
 
@@ -59,6 +59,22 @@ pub fn tunnelled_in<'a>(tunnels: &Tunnels, octets: &'a [u8]) -> Option<Tunnelled
     match Packet::read(octets) {
         Ok(packet) => carried_in(tunnels, &packet),
         Err(_) => None,
+    }
+}
+
+/// The same of a packet of which so many octets are missing: one that is cut is none of a tunnel.
+pub(crate) fn tunnelled_whole<'a>(
+    tunnels: &Tunnels,
+    octets: &'a [u8],
+    missing: u32,
+) -> Option<Tunnelled<'a>>
+    ensures value { result ≡ tunnelled_whole tunnels.now missing octets.now }
+    ensures short { IfSome result (λ t. length t.inner ≤ length octets.now) }
+{
+    if missing == 0 {
+        tunnelled_in(tunnels, octets)
+    } else {
+        None
     }
 }
 

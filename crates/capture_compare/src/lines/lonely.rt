@@ -64,7 +64,7 @@ impl fmt::Display for BehindMoment {
 
 /// The word for a capture.
 #[derive(Clone, Copy)]
-struct SideWord(Side);
+pub(crate) struct SideWord(pub(crate) Side);
 
 impl fmt::Display for SideWord {
     ghost output = { λ side. Some (side_word side.0) };

@@ -29,16 +29,22 @@ pub enum Difference {
     Remote(Addr, Addr),
     /// The VIDs of the tags of frames, where they have one.
     Tag(Option<u16>, Option<u16>),
-    /// The lengths in octets; the shorter one is a front of the other.
+    /// The lengths in octets of whole records; the shorter one is a front of the other.
     Length(usize, usize),
 }
 
-/// The one thing in which a record that was received differs from one that was sent, by their keys.
-pub(crate) fn difference_by(reading: Reading, sent: &[u8], received: &[u8]) -> Option<Difference>
-    ensures { result ≡ difference_by reading sent.now received.now }
+/// The one thing in which a record that was received differs from one that was sent, by their keys, where so many octets of each
+/// are missing.
+pub(crate) fn difference_by(
+    reading: Reading,
+    missing: u32,
+    sent: &[u8],
+    received: &[u8],
+) -> Option<Difference>
+    ensures { result ≡ difference_by reading missing sent.now received.now }
 {
     match reading {
-        Reading::Frame => frame_difference(sent, received),
+        Reading::Frame => frame_difference(missing, sent, received),
         Reading::Packet => packet_difference(sent, received),
     }
 }
@@ -99,12 +105,12 @@ fn same_kind(one: Tunnel, other: Tunnel) -> bool
 }
 
 /// The same of frames.
-fn frame_difference(sent: &[u8], received: &[u8]) -> Option<Difference>
-    ensures { result ≡ frame_difference sent.now received.now }
+fn frame_difference(missing: u32, sent: &[u8], received: &[u8]) -> Option<Difference>
+    ensures { result ≡ frame_difference missing sent.now received.now }
 {
     match tag_difference(bare_of(sent), bare_of(received)) {
         Some(difference) => Some(difference),
-        None => length_difference(sent, received),
+        None => length_difference(missing, sent, received),
     }
 }
 
@@ -145,11 +151,11 @@ fn same_vid(one: Option<u16>, other: Option<u16>) -> bool
     }
 }
 
-/// The lengths of two records, where they alone differ.
-fn length_difference(sent: &[u8], received: &[u8]) -> Option<Difference>
-    ensures { result ≡ length_difference sent.now received.now }
+/// The lengths of two records, where they alone differ: of those that are cut nobody knows how they go on.
+fn length_difference(missing: u32, sent: &[u8], received: &[u8]) -> Option<Difference>
+    ensures { result ≡ length_difference missing sent.now received.now }
 {
-    if is_length_alone(sent, received) {
+    if missing == 0 && is_length_alone(sent, received) {
         Some(Difference::Length(received.len(), sent.len()))
     } else {
         None

@@ -22,6 +22,7 @@ struct Held {
     /// Nanoseconds.
     moment: u64,
     octets: Vec<u8>,
+    missing: u32,
 }
 
 impl Model for Held {
@@ -29,7 +30,7 @@ impl Model for Held {
 
     ghost Value = { Record };
 
-    ghost view = { λ h. record { moment = h.moment; octets = h.octets.items } };
+    ghost view = { λ h. record { moment = h.moment; octets = h.octets.items; missing = h.missing } };
 }
 
 /// The latest 4,096 records that were received alone, of at most 16,384 octets each, and weren't named yet; seen by contracts as
@@ -76,6 +77,7 @@ impl LonelySeen {
         self.held.push(Held {
             moment: received.moment,
             octets,
+            missing: received.missing,
         })?;
         if self.held.len() > MOST {
             let _ = self.held.remove(0);
@@ -116,12 +118,21 @@ fn find_near(
     None
 }
 
-/// What of a record that was received differs from one that was sent, where it may be that one by its moment.
+/// What of a record that was received differs from one that was sent, where it may be that one by its moment, and as many octets
+/// of both are missing.
 fn near_by(reading: Reading, within: u64, sent: &Seen, received: &Held) -> Option<Difference>
     ensures { result ≡ near_by reading within (told sent.now) received.now }
 {
     if sent.moment > received.moment || received.moment - sent.moment > within {
         return None;
     }
-    difference_by(reading, sent.octets, received.octets.as_slice())
+    if sent.missing != received.missing {
+        return None;
+    }
+    difference_by(
+        reading,
+        sent.missing,
+        sent.octets,
+        received.octets.as_slice(),
+    )
 }

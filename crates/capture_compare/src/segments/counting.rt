@@ -1,6 +1,7 @@
 //! Records that are compared, counted by their segments.
 ghost use Rattle.std.specs.Prelude.{◌≡◌, IfOk, replicate};
 ghost use Rattle.capture_compare.specs.Counts.{no_counts};
+ghost use Rattle.record_match.specs.Kept.{told};
 ghost use Rattle.capture_compare.specs.Counting.{with_fact, with_record};
 ghost use Rattle.capture_compare.specs.Segments.{index_of};
 
@@ -38,10 +39,10 @@ impl SegmentCounts {
     }
 
     /// Adds counts to those of a record's segment.
-    fn count(&mut self, octets: &[u8], counts: Counts)
-        ensures { self.new ≡ with_record octets.now counts self.old }
+    fn count(&mut self, seen: &Seen, counts: Counts)
+        ensures { self.new ≡ with_record (told seen.now) counts self.old }
     {
-        let segment = self.index.segment_at(self.reading, octets);
+        let segment = self.index.segment_at(self.reading, seen);
         self.rows.add(segment, counts);
     }
 }
@@ -55,7 +56,7 @@ impl Onlooker for SegmentCounts {
             received: 1,
             both: 1,
         };
-        self.count(received.octets, counts);
+        self.count(received, counts);
     }
 
     fn see_received(&mut self, _number: u64, received: &Seen) {
@@ -64,7 +65,7 @@ impl Onlooker for SegmentCounts {
             received: 1,
             both: 0,
         };
-        self.count(received.octets, counts);
+        self.count(received, counts);
     }
 
     fn see_sent(&mut self, _number: u64, sent: &Seen) {
@@ -73,6 +74,6 @@ impl Onlooker for SegmentCounts {
             received: 0,
             both: 0,
         };
-        self.count(sent.octets, counts);
+        self.count(sent, counts);
     }
 }

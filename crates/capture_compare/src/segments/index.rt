@@ -1,17 +1,19 @@
 //! Which segment of an endpoint's settings a record is of.
 ghost use Rattle.std.specs.Prelude.{◌≡◌, IfOk, map};
 ghost use Rattle.capture_compare.specs.Segment.{tunnel_segment};
-ghost use Rattle.capture_compare.specs.Tunnelled.{tunnelled};
+ghost use Rattle.capture_compare.specs.Tunnelled.{tunnelled_whole};
+ghost use Rattle.record_match.specs.Kept.{told};
 ghost use Rattle.overlay.specs.Settings.{tunnel_rule};
 ghost use Rattle.capture_compare.specs.Segments.{frame_vid, index_of, key_segment, known, packet_segment, port_segment, pvid_at};
 ghost use Rattle.capture_compare.specs.Segments.{segment_at, tag_vid, told_segment, tunnels_of, vid_by};
 
-use crate::carried::{Tunnels, tunnelled_in};
+use crate::carried::{Tunnels, tunnelled_whole};
 use crate::lonely::{Reading, RecordSegment, segment_of};
 use crate::segments::reading::PlaceReading;
 use overlay::ports::PortRule;
 use overlay::settings::{SegmentRule, Settings};
 use overlay::underlay::{Overlay, TunnelRule, Underlay};
+use record_match::Seen;
 use std::alloc::{AllocError, Global};
 use std::marker::Model;
 use wire::ether::Vid;
@@ -67,13 +69,13 @@ impl SegmentIndex {
     }
 
     /// The VID of the segment that a record is of; nothing where it is of none of the settings.
-    pub fn segment_at(&self, reading: PlaceReading, octets: &[u8]) -> Option<Vid>
-        ensures { result ≡ segment_at self.now reading octets.now }
+    pub fn segment_at(&self, reading: PlaceReading, seen: &Seen) -> Option<Vid>
+        ensures { result ≡ segment_at self.now reading (told seen.now) }
     {
         match reading {
-            PlaceReading::Port(port) => self.port_segment(port, octets),
-            PlaceReading::Keys => self.key_segment(octets),
-            PlaceReading::Packets => self.packet_segment(octets),
+            PlaceReading::Port(port) => self.port_segment(port, seen.octets),
+            PlaceReading::Keys => self.key_segment(seen.octets),
+            PlaceReading::Packets => self.packet_segment(seen),
         }
     }
 
@@ -112,10 +114,10 @@ impl SegmentIndex {
     }
 
     /// The segment of a packet of the underlay.
-    fn packet_segment(&self, octets: &[u8]) -> Option<Vid>
-        ensures { result ≡ packet_segment self.now octets.now }
+    fn packet_segment(&self, seen: &Seen) -> Option<Vid>
+        ensures { result ≡ packet_segment self.now (told seen.now) }
     {
-        self.told_segment(told_by(&self.tunnels, octets))
+        self.told_segment(told_by(&self.tunnels, seen))
     }
 
     /// The segment that has the tunnel of a packet.
@@ -158,10 +160,10 @@ fn tag_vid(pvid: Option<Vid>, tag: u16) -> Option<Vid>
 }
 
 /// What a packet of the underlay tells.
-fn told_by(tunnels: &Tunnels, octets: &[u8]) -> RecordSegment
-    ensures { result ≡ tunnel_segment (tunnelled tunnels.now octets.now) }
+fn told_by(tunnels: &Tunnels, seen: &Seen) -> RecordSegment
+    ensures { result ≡ tunnel_segment (tunnelled_whole tunnels.now seen.now.missing seen.now.octets.now) }
 {
-    match tunnelled_in(tunnels, octets) {
+    match tunnelled_whole(tunnels, seen.octets, seen.missing) {
         Some(carried) => RecordSegment::Tunnel(carried.kind, carried.vni),
         None => RecordSegment::NoTunnel,
     }

@@ -3,7 +3,7 @@ ghost use Rattle.json_lines.specs.ReadBack.{AreWhole};
 
 use crate::{Form, form};
 
-static COMPARED: [Form; 9] = [
+static COMPARED: [Form; 13] = [
     form!(["sent", "alone", Number] => { "count": [2], "line": "sent alone" }),
     form!(["received", "alone", Number] => { "count": [2], "line": "received alone" }),
     // What is sent, received or both, and delays.
@@ -23,6 +23,15 @@ static COMPARED: [Form; 9] = [
         "both": [7], "line": "no segment", "received": [5], "received_alone": [13], "sent": [3],
         "sent_alone": [10]
     }),
+    form!(["cut:", "sent", NumberBefore(b','), "received", Number] => {
+        "line": "cut", "received": [4], "sent": [2]
+    }),
+    form!([TextBefore(b':'), "cut:", "sent", NumberBefore(b','), "received", Number] => {
+        "line": "cut", "place": [0], "received": [5], "sent": [3]
+    }),
+    // A capture that ends within a record.
+    form!([TextBefore(b':'), "cut"] => { "line": "ends cut", "side": [0] }),
+    form!([TextBefore(b':'), TextBefore(b':'), "cut"] => { "line": "ends cut", "place": [0], "side": [1] }),
     form!([TextBefore(b':'), "no", "capture"] => { "line": "no capture", "place": [0] }),
     form!(["length", NumberBefore(b':'), "both", NumberBefore(b','), "sent", "alone", NumberBefore(b','),
         "received", "alone", Number] => {
@@ -34,7 +43,7 @@ static COMPARED: [Form; 9] = [
     }),
 ];
 
-/// The counts of what is compared.
+/// The counts of what is compared, and what of it is cut.
 #[tactic(auto, using(crate::proofs::Whole::whole_forms))]
 pub(crate) fn compared_forms() -> &'static [Form]
     ensures { AreWhole result.now }

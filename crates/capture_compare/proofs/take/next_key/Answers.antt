@@ -1,5 +1,5 @@
-use Rattle.std.proofs.Common.{◌∙◌, ap, sym, Some}
-use Rattle.capture_compare.proofs.Sifting.{told-key, told-none}
+use Rattle.std.proofs.Common.{◌∙◌, sym}
+use Rattle.capture_compare.proofs.Sifting.{told-as, told-none}
 use Rattle.capture_compare.proofs.take.next_key.Goals as goal
 
 pub returns-then-ignores : goal.returns-then-ignores
@@ -8,4 +8,4 @@ returns-then-ignores g c = λ r e.
 
 pub returns : goal.returns
 returns g c = λ r e.
-    ap Some c.key.ensures ∙ sym (told-key c.args.manner.now c.record.view_is (c.in-Some.ensures.record ∙ e) c.ignores.ensures c.if-ignores.false)
+    told-as c.args.manner.now c.record.view_is (c.in-Some.ensures.record ∙ e) c.ignores.ensures c.if-ignores.false c.missing_of-missing.ensures c.put.ensures c.key-octets.ensures

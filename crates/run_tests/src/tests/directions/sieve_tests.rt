@@ -11,7 +11,7 @@ use timeline::{Captured, Event, Happening, Tap};
 /// How many nanoseconds behind its frame an echo comes at most.
 const WITHIN: u64 = 10;
 
-/// Records: what each is, its place, its moment, its octets, and whether it's input. The endpoint is 192.0.2.1.
+/// Records: what each is, its place, its moment, its octets, and whether it's input. The endpoint is 192.0.2.1 and 2001:db8::1.
 fn rows<'a>() -> &'a str {
     "\
 a frame comes in | p1 | 100 | 02000000000B02000000000A88B501010101 | in
@@ -51,7 +51,52 @@ like any other | p2 | 173 | 010203 | out
 "
 }
 
-/// The underlay of an endpoint at 192.0.2.1 with the registered ports.
+/// A loop at the underlay, and packets whose sender can be read, or can't: as above.
+fn sender_rows<'a>() -> &'a str {
+    "\
+a broadcast comes in | p1 | 100 | FFFFFFFFFFFF02000000000A88B501010101 | in
+the endpoint floods it to its peer | u | 101 | \
+02000000AA0202000000AA01080045000036000000004011F6B3C0000201C0000202C00012B5002200000800000000138800\
+FFFFFFFFFFFF02000000000A88B501010101 | out
+and out of a port | p2 | 101 | FFFFFFFFFFFF02000000000A88B501010101 | out
+the peer sends it back | u | 103 | \
+02000000AA0102000000AA02080045000036000000004011F6B3C0000202C0000201C00012B5002200000800000000138800\
+FFFFFFFFFFFF02000000000A88B501010101 | in
+its flood leaves at the first port | p1 | 104 | FFFFFFFFFFFF02000000000A88B501010101 | out
+and at the second, tagged | p2 | 105 | FFFFFFFFFFFF02000000000A8100000A88B501010101 | out
+a third one there came in | p2 | 106 | FFFFFFFFFFFF02000000000A88B501010101 | in
+the peer sends it back under a VNI of no segment | u | 107 | \
+02000000AA0102000000AA02080045000036000000004011F6B3C0000202C0000201C00012B5002200000800000000138900\
+FFFFFFFFFFFF02000000000A88B501010101 | in
+an own packet whose header has a wrong sum | u | 120 | \
+02000000AA0202000000AA01080045000036000000004011F6B4C0000201C0000202C00012B5002200000800000000138800\
+FFFFFFFFFFFF02000000000A88B501010101 | out
+one with too small a header length | u | 121 | \
+02000000AA0202000000AA01080044000036000000004011F7B3C0000201C0000202C00012B5002200000800000000138800\
+FFFFFFFFFFFF02000000000A88B501010101 | out
+one with a total length beyond it | u | 122 | \
+02000000AA0202000000AA01080045000037000000004011F6B2C0000201C0000202C00012B5002200000800000000138800\
+FFFFFFFFFFFF02000000000A88B501010101 | out
+one with a UDP length beyond it | u | 123 | \
+02000000AA0202000000AA01080045000036000000004011F6B3C0000201C0000202C00012B500FF00000800000000138800\
+FFFFFFFFFFFF02000000000A88B501010101 | out
+a fragment | u | 124 | \
+02000000AA0202000000AA01080045000036000020004011D6B3C0000201C0000202C00012B5002200000800000000138800\
+FFFFFFFFFFFF02000000000A88B501010101 | out
+one that is cut | u | 125 | 02000000AA0202000000AA01080045000036000000004011F6B3C0000201C0000202C00012B50022 | out
+behind its source address | u | 126 | 02000000AA0202000000AA01080045000036000000004011F6B3C0000201 | out
+an octet before its end | u | 127 | 02000000AA0202000000AA01080045000036000000004011F6B3C00002 | in
+behind two tags | u | 128 | 02000000AA0202000000AA018100000A88A8000B080045000036000000004011F6B3C0000201 | out
+behind three | u | 129 | 02000000AA0202000000AA018100000A88A8000B8100000C080045000036000000004011F6B3C0000201 | in
+of another version | u | 130 | 02000000AA0202000000AA01080065000036000000004011F6B3C0000201 | in
+from another | u | 131 | 02000000AA0202000000AA01080045000036000000004011F6B3C0000203 | in
+over IPv6, a payload length beyond it | u | 133 | 02000000AA0202000000AA0186DD60000000FFFF114020010DB8000000000000000000000001 | out
+an octet before its end, too | u | 134 | 02000000AA0202000000AA0186DD60000000FFFF114020010DB80000000000000000000000 | in
+of version 4 there | u | 135 | 02000000AA0202000000AA0186DD40000000FFFF114020010DB8000000000000000000000001 | in
+"
+}
+
+/// The underlay of an endpoint at 192.0.2.1 and 2001:db8::1 with the registered ports.
 fn underlay(alloc: Global) -> Result<Underlay, Fail> {
     let settings = settings_of(alloc, ENDPOINT.as_bytes())?;
     Ok(settings.into_parts().underlay)
@@ -120,6 +165,16 @@ fn what_the_switch_sent_is_no_input(rt: HostRuntime) -> Result<(), Fail> {
     let wrong = wrong_row(rt.alloc(), &mut both, rows())?.unwrap_or("none");
     assert_eq!(rt; wrong, "none");
     assert!(rt; are_counted(&both));
+    Ok(())
+}
+
+#[test]
+fn at_the_underlay_the_outer_source_decides(rt: HostRuntime) -> Result<(), Fail> {
+    let underlay = underlay(rt.alloc())?;
+    let mut both = BothWays::new(rt.alloc(), WITHIN, &underlay)?;
+    let wrong = wrong_row(rt.alloc(), &mut both, sender_rows())?.unwrap_or("none");
+    assert_eq!(rt; wrong, "none");
+    assert!(rt; both.left_out(Tap::Underlay) == 10 && both.forgotten_line().is_none());
     Ok(())
 }
 

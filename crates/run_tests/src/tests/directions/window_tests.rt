@@ -1,5 +1,5 @@
 //! How much a window keeps.
-use echo_window::{Record, Window};
+use echo_window::{Forgotten, Record, Window};
 use std::alloc::Global;
 use std::test::Fail;
 
@@ -61,5 +61,51 @@ fn a_frame_in_which_the_room_ends_is_found(rt: HostRuntime) -> Result<(), Fail> 
         let _ = show(&mut window, 1, number, rest.as_slice());
     }
     assert!(rt; first_lost(&mut window, 47, 52, rest.as_slice()).is_none());
+    Ok(())
+}
+
+/// What a window forgot behind so many frames, a nanosecond apart. Every second one enters unasked.
+fn forgotten_behind(alloc: Global, within: u64, count: u32) -> Result<Forgotten, Fail> {
+    let mut window = Window::new(alloc, within)?;
+    for number in 0..count {
+        let octets = number.to_be_bytes();
+        let record = Record {
+            place: 1,
+            moment: u64::from(number),
+            addresses: &octets,
+            rest: &[],
+        };
+        if number % 2 == 0 {
+            window.enter(&record);
+        } else {
+            let _ = window.meet(&record);
+        }
+    }
+    Ok(window.forgotten())
+}
+
+/// So many frames, of which the youngest that went was so old.
+fn went(count: u64, least_age: Option<u64>) -> Forgotten {
+    Forgotten { count, least_age }
+}
+
+#[test]
+fn what_goes_for_want_of_room_is_counted(rt: HostRuntime) -> Result<(), Fail> {
+    assert!(rt; forgotten_behind(rt.alloc(), 10_000, 4096)? == went(0, None));
+    assert!(rt; forgotten_behind(rt.alloc(), 10_000, 4099)? == went(3, Some(4096)));
+    // An echo of the first could still come in the nanosecond of the last, or no more.
+    assert!(rt; forgotten_behind(rt.alloc(), 4096, 4097)? == went(1, Some(4096)));
+    assert!(rt; forgotten_behind(rt.alloc(), 4095, 4097)? == went(0, None));
+    Ok(())
+}
+
+#[test]
+fn a_frame_that_fits_nowhere_is_counted(rt: HostRuntime) -> Result<(), Fail> {
+    let mut rest = Vec::new(rt.alloc());
+    rest.resize(4_194_301, 0x55)?;
+    let mut window = Window::new(rt.alloc(), 10)?;
+    let _ = show(&mut window, 1, 0, &[]);
+    assert!(rt; show(&mut window, 2, 0, rest.as_slice()).is_none());
+    assert!(rt; window.forgotten() == went(2, Some(0)));
     Ok(())
 }

@@ -4,7 +4,7 @@ ghost use Rattle.std.specs.Prelude.{⊤};
 use endpoint_core::{ChangeFault, Endpoint, Forwarding, nothing_came};
 use filter_db::Place;
 use overlay_config::settings_of;
-use run_progress::{Beside, Progress, Screen};
+use run_progress::{Progress, Screen, WithProgress};
 use std::alloc::Global;
 use std::cell::{Cell, RefCell};
 use std::fmt::Write;
@@ -200,7 +200,7 @@ fn whoever_looks_on_is_told_all(rt: HostRuntime) -> Result<(), Fail> {
     let settings = settings_of(rt.alloc(), ENDPOINT.as_bytes())?;
     let endpoint = Endpoint::open(rt.alloc(), settings)?;
     let desk = Desk::new(rt.alloc(), true, u64::MAX);
-    let mut beside = Beside {
+    let mut beside = WithProgress {
         watch: no_calls(),
         progress: Progress::start(&desk, None),
     };

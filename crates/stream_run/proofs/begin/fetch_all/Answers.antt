@@ -18,12 +18,12 @@ at-requires g c = (asked_first c.args.changes.now c.loop-index.index c.loop-inde
 
 pub loop-index-preserved : goal.loop-index-preserved
 loop-index-preserved g c = record {
-  so_far = one_fetched c.args.changes.now c.loop-index.index c.args.captures.now.ports.items c.args.captures.now.underlay c.args.turns.now c.loop-index.captures.ports.items c.loop-index.captures.underlay c.loop-index.turns c.loop-index.invariant.so_far c.fetch_at.new.captures.ports.items c.fetch_at.new.captures.underlay _ (omega (arith, c.loop-index-test.true, c.loop-index.invariant.so_far.size)) (fetched_to c.args.changes.now c.loop-index.index 0 0 c.loop-index.captures.ports.items c.loop-index.captures.underlay c.fetch_at.new.captures.ports.items c.fetch_at.new.captures.underlay c.fetch_at.new.next c.at.result c.at.ensures c.in_default.ensures.fetched);
+  so_far = one_fetched c.args.changes.now c.loop-index.index c.args.captures.now.ports.items c.args.captures.now.underlay c.args.turns.now c.loop-index.captures.ports.items c.loop-index.captures.underlay c.loop-index.turns c.loop-index.invariant.so_far c.fetch_at.new.captures.ports.items c.fetch_at.new.captures.underlay _ (omega (arith, c.loop-index-test.true, c.loop-index.invariant.so_far.size)) (fetched_to c.args.changes.now c.loop-index.index 0 0 c.loop-index.captures.ports.items c.loop-index.captures.underlay c.fetch_at.new.captures.ports.items c.fetch_at.new.captures.underlay c.fetch_at.new.when c.at.result c.at.ensures c.in_default.ensures.fetched);
   still = c.in_default.ensures.may_wait ∙ c.loop-index.invariant.still;
 }
 
 pub returns-in-Err-clause-reads : goal.returns-in-Err-clause-reads
-returns-in-Err-clause-reads g c = fetch_stops c.args.changes.now c.loop-index.index c.args.captures.now.ports.items c.args.captures.now.underlay c.args.turns.now c.loop-index.captures.ports.items c.loop-index.captures.underlay c.loop-index.turns c.loop-index.invariant.so_far c.fetch_at.new.captures.ports.items c.fetch_at.new.captures.underlay c.fault_at.result (fault_from c.args.changes.now c.loop-index.index 0 0 c.loop-index.captures.ports.items c.loop-index.captures.underlay c.fetch_at.new.captures.ports.items c.fetch_at.new.captures.underlay c.fetch_at.new.next c.in-Err.fault c.tap_at.result c.fault_at.result _ c.fault_at.ensures c.tap_at.ensures (omega (arith, c.loop-index.invariant.so_far.size, c.loop-index.invariant.so_far.many, c.requires.size)) c.in-Err.ensures.fetched)
+returns-in-Err-clause-reads g c = fetch_stops c.args.changes.now c.loop-index.index c.args.captures.now.ports.items c.args.captures.now.underlay c.args.turns.now c.loop-index.captures.ports.items c.loop-index.captures.underlay c.loop-index.turns c.loop-index.invariant.so_far c.fetch_at.new.captures.ports.items c.fetch_at.new.captures.underlay c.fault_at.result (fault_from c.args.changes.now c.loop-index.index 0 0 c.loop-index.captures.ports.items c.loop-index.captures.underlay c.fetch_at.new.captures.ports.items c.fetch_at.new.captures.underlay c.fetch_at.new.when c.in-Err.fault c.tap_at.result c.fault_at.result _ c.fault_at.ensures c.tap_at.ensures (omega (arith, c.loop-index.invariant.so_far.size, c.loop-index.invariant.so_far.many, c.requires.size)) c.in-Err.ensures.fetched)
 
 pub returns-in-Err-clause-only_reads : goal.returns-in-Err-clause-only_reads
 returns-in-Err-clause-only_reads g c = subst (λ (f : StreamFault). OnlyReads (Err f)) (sym c.fault_at.ensures) (fault_only_reads c.tap_at.result 1 c.in-Err.fault)
@@ -35,7 +35,7 @@ pub returns-clause-reads : goal.returns-clause-reads
 returns-clause-reads g c = c.loop-index.invariant.so_far.quiet
 
 pub returns-in-Err-clause-told : goal.returns-in-Err-clause-told
-returns-in-Err-clause-told g c = faults_told c.args.changes.now c.loop-index.index c.args.captures.now.ports.items c.args.captures.now.underlay c.args.turns.now c.loop-index.captures.ports.items c.loop-index.captures.underlay c.loop-index.turns c.loop-index.invariant.so_far c.fetch_at.new.captures.ports.items c.fetch_at.new.captures.underlay c.fault_at.result c.loop-index.turns (fault_from c.args.changes.now c.loop-index.index 0 0 c.loop-index.captures.ports.items c.loop-index.captures.underlay c.fetch_at.new.captures.ports.items c.fetch_at.new.captures.underlay c.fetch_at.new.next c.in-Err.fault c.tap_at.result c.fault_at.result _ c.fault_at.ensures c.tap_at.ensures (omega (arith, c.loop-index.invariant.so_far.size, c.loop-index.invariant.so_far.many, c.requires.size)) c.in-Err.ensures.fetched)
+returns-in-Err-clause-told g c = faults_told c.args.changes.now c.loop-index.index c.args.captures.now.ports.items c.args.captures.now.underlay c.args.turns.now c.loop-index.captures.ports.items c.loop-index.captures.underlay c.loop-index.turns c.loop-index.invariant.so_far c.fetch_at.new.captures.ports.items c.fetch_at.new.captures.underlay c.fault_at.result c.loop-index.turns (fault_from c.args.changes.now c.loop-index.index 0 0 c.loop-index.captures.ports.items c.loop-index.captures.underlay c.fetch_at.new.captures.ports.items c.fetch_at.new.captures.underlay c.fetch_at.new.when c.in-Err.fault c.tap_at.result c.fault_at.result _ c.fault_at.ensures c.tap_at.ensures (omega (arith, c.loop-index.invariant.so_far.size, c.loop-index.invariant.so_far.many, c.requires.size)) c.in-Err.ensures.fetched)
 
 pub returns-clause-told : goal.returns-clause-told
 returns-clause-told g c =

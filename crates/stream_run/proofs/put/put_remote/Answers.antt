@@ -25,24 +25,24 @@ pub returns-in-Err-put_out-clause-sent : goal.returns-in-Err-put_out-clause-sent
 returns-in-Err-put_out-clause-sent g c start o at =
     let S = (state_of c.args.leaving.now.endpoint.now).bridges.settings in
     let f = c.args.leaving.now.came.now.frame in
-    let whole = sent_at S c.args.leaving.now.came.now.vid f (Remote c.args.kind c.args.addr) in
+    let whole = sent_at S c.args.leaving.now.came.now.vid f (Remote c.args.peer.kind c.args.peer.addr) in
     let is = packet_sent c.put_head.new.head.items _ _ f _ whole.sent c.as_slice-head.ensures.value (sym (take-append-drop 6 _)) (c.frame.view_is ∙ c.frame-frame.ensures)
     (ap (text_behind c.put_head.new.head.items f) (sym c.in-Ok.is) ∙ c.put_head.ensures) in
-    subst (λ (s : Result (List ℕ) Reason). Lead {T = Unit {0}} start c.put_out.new.outputs o (with_sent c.args.leaving.now.moment o (record { place = Remote c.args.kind c.args.addr; sent = s })) (Err c.in-Err-put_out.target))
+    subst (λ (s : Result (List ℕ) Reason). Lead {T = Unit {0}} start c.put_out.new.outputs o (with_sent c.args.leaving.now.moment o (record { place = Remote c.args.peer.kind c.args.peer.addr; sent = s })) (Err c.in-Err-put_out.target))
     is (c.in-Err-put_out.ensures start o at)
 
 pub returns-clause-sent : goal.returns-clause-sent
 returns-clause-sent g c start o at =
     let S = (state_of c.args.leaving.now.endpoint.now).bridges.settings in
     let f = c.args.leaving.now.came.now.frame in
-    let whole = sent_at S c.args.leaving.now.came.now.vid f (Remote c.args.kind c.args.addr) in
+    let whole = sent_at S c.args.leaving.now.came.now.vid f (Remote c.args.peer.kind c.args.peer.addr) in
     elim c.match-put_head.branch [
       | in-Ok+in_default w ↦
           let is = packet_sent c.put_head.new.head.items _ _ f _ whole.sent w.as_slice-head.ensures.value (sym (take-append-drop 6 _)) (w.frame.view_is ∙ w.frame-frame.ensures)
           (ap (text_behind c.put_head.new.head.items f) (sym w.in-Ok.is) ∙ c.put_head.ensures) in
-          rw w.outputs-is (subst (λ (s : Result (List ℕ) Reason). StandAt start w.put_out.new.outputs (with_sent c.args.leaving.now.moment o (record { place = Remote c.args.kind c.args.addr; sent = s })))
+          rw w.outputs-is (subst (λ (s : Result (List ℕ) Reason). StandAt start w.put_out.new.outputs (with_sent c.args.leaving.now.moment o (record { place = Remote c.args.peer.kind c.args.peer.addr; sent = s })))
           is (w.in_default.ensures start o at))
       | in-Err w ↦
           let is : Err w.in-Err.reason ≡ whole.sent = ap (text_behind c.put_head.new.head.items f) (sym w.in-Err.is) ∙ c.put_head.ensures in
-          rw w.outputs-is (subst (λ (s : Result (List ℕ) Reason). StandAt start c.args.outputs.now (with_sent c.args.leaving.now.moment o (record { place = Remote c.args.kind c.args.addr; sent = s }))) is at)
+          rw w.outputs-is (subst (λ (s : Result (List ℕ) Reason). StandAt start c.args.outputs.now (with_sent c.args.leaving.now.moment o (record { place = Remote c.args.peer.kind c.args.peer.addr; sent = s }))) is at)
     ]

@@ -1,4 +1,6 @@
-use Rattle.std.proofs.Common.{◌≡◌, ◌∙◌, ◌+◌, arith, ap, sym, subst, refl, length, Bool, ℕ, List, Vec, Global, Err}
+use Rattle.std.proofs.Common.{rules, ◌≡◌, ◌∙◌, ◌+◌, arith, ap, sym, subst, refl, length, Bool, ℕ, List, Vec, Global, Err}
+use Rattle.std.proofs.lemmas.List.{places, with_items_is}
+use Rattle.std.specs.Vec.{with_items}
 use Rattle.overlay.specs.Settings.{Settings}
 use Rattle.capture_run.specs.Among.{cuts_among}
 use Rattle.capture_run.specs.Outputs.{Outputs}
@@ -11,6 +13,7 @@ use Rattle.stream_run.specs.Left.{IsOpenedWith, ends}
 use Rattle.stream_run.specs.Over.{Tells, texts_octets}
 use Rattle.stream_run.specs.Stage.{FailedAt, StandAt, StandBetween, no_texts}
 use Rattle.stream_run.specs.Steps.{AreRead, AreReady, run_at, texts_behind}
+use Rattle.stream_run.specs.declared.turn.Turn.{Turn}
 use Rattle.stream_run.proofs.Closing.{opened_read, over_lines, over_opening, over_run, over_whole, reach_lines, reach_opening, reach_run, reach_whole, seen_lines, seen_opening, seen_run, seen_whole, went_whole}
 use Rattle.stream_run.proofs.Framing.{leaves_all, leaves_begun, leaves_cuts, leaves_events, leaves_headers, leaves_nothing, none_at, opened_all, opens_only_reads, ready_begun}
 use Rattle.stream_run.proofs.Opened.{reads_behind}
@@ -55,20 +58,27 @@ at_first : (g : Over) (c : After-fetch_all g) (texts : List (Vec ℕ Global)) (t
     → AreAtFirst (texts_octets texts) text c.open_all.new.captures.ports.items c.open_all.new.captures.underlay
 at_first g c texts text tells = opened_read c.args.captures.now.ports.items c.open_all.new.captures.ports.items c.args.captures.now.underlay c.open_all.new.captures.underlay texts text tells (as_many g c) c.in_default.ensures.opened
 
+-- where the sources stand behind the fetches
+abbrev turns_behind : (g : Over) → In_default-fetch_all g → List Turn
+turns_behind g c = (with_items c.args.taker.now.turns c.fetch_all.new.turns).items
+
+turns_fetched : (g : Over) (c : In_default-fetch_all g) → turns_behind g c ≡ c.fetch_all.new.turns
+turns_fetched g c = with_items_is c.args.taker.now.turns c.fetch_all.new.turns (search (rules, places))
+
 -- the first records were fetched
 ready : (g : Over) (c : In_default-fetch_all g) (settings : Settings) → IsOpenedWith settings c.args.captures.now.ports.items (state_of c.args.taker.now.endpoint)
-    → AreReady c.args.part.now.changes.now 0 (run_at c.fetch_all.new.captures.ports.items c.fetch_all.new.captures.underlay c.fetch_all.new.turns (state_of c.args.taker.now.endpoint) 0 c.begin_all.new.outputs)
+    → AreReady c.args.part.now.changes.now 0 (run_at c.fetch_all.new.captures.ports.items c.fetch_all.new.captures.underlay (turns_behind g c) (state_of c.args.taker.now.endpoint) 0 c.begin_all.new.outputs)
 ready g c settings is =
     let begun = c.begin_all.new.outputs in
     let many : length c.open_all.new.captures.ports.items ≡ length c.args.captures.now.ports.items = omega (arith, c.in_default.ensures.many) in
-    let turns : c.args.turns.now ≡ _ = c.requires.turns ∙ ap (λ n. first_turns c.args.part.now.changes.now (n + 1)) (sym many) in
-    subst (λ ts. AreReady c.args.part.now.changes.now 0 (run_at c.fetch_all.new.captures.ports.items c.fetch_all.new.captures.underlay ts (state_of c.args.taker.now.endpoint) 0 begun)) refl
+    let turns : c.as_mut_slice-turns.result.now ≡ _ = c.as_mut_slice-turns.ensures.value ∙ c.requires.turns ∙ ap (λ n. first_turns c.args.part.now.changes.now (n + 1)) (sym many) in
+    subst (λ ts. AreReady c.args.part.now.changes.now 0 (run_at c.fetch_all.new.captures.ports.items c.fetch_all.new.captures.underlay ts (state_of c.args.taker.now.endpoint) 0 begun)) (sym (turns_fetched g c))
     (c.in_default-fetch_all.ensures.ready (state_of c.args.taker.now.endpoint) begun (ap (λ (s : State). s.moment) is.state_is)
     (ready_begun c.args.part.now.changes.now c.open_all.new.captures.ports.items c.open_all.new.captures.underlay settings (state_of c.args.taker.now.endpoint) begun _ c.requires.timely (omega (arith, many, c.requires.few)) (many ∙ is.many) is.state_is turns))
 
 read : (g : Over) (c : In_default-fetch_all g) (texts : List (Vec ℕ Global)) (text : List ℕ) → AreAtFirst (texts_octets texts) text c.open_all.new.captures.ports.items c.open_all.new.captures.underlay
-    → AreRead (texts_octets texts) text c.fetch_all.new.turns c.fetch_all.new.captures.ports.items c.fetch_all.new.captures.underlay
-read g c texts text at = subst (λ ts. AreRead (texts_octets texts) text ts c.fetch_all.new.captures.ports.items c.fetch_all.new.captures.underlay) refl (c.in_default-fetch_all.ensures.told (texts_octets texts) text at)
+    → AreRead (texts_octets texts) text (turns_behind g c) c.fetch_all.new.captures.ports.items c.fetch_all.new.captures.underlay
+read g c texts text at = subst (λ ts. AreRead (texts_octets texts) text ts c.fetch_all.new.captures.ports.items c.fetch_all.new.captures.underlay) (sym (turns_fetched g c)) (c.in_default-fetch_all.ensures.told (texts_octets texts) text at)
 
 -- behind the events
 abbrev texts_put : (g : Over) → After-put_cuts_among g → ℕ → Outputs
@@ -81,12 +91,12 @@ events_written g c n at = c.in_default-put_events.ensures.run.watched.run.output
 -- where a line of a cut capture failed, they hold a part of those lines
 lines_failed : (g : Over) (c : In-Err-put_cuts_among g) (n : ℕ)
     → let start = c.args.outputs.now in let o = texts_behind c.args.part.now.segments.now c.args.part.now.changes.now (state_of c.args.taker.now.endpoint) (empty_outputs n) (g.S.Sieve.taken c.args.sieve.now c.in_default-put_events.ensures.run.watched.run.es) in StandAt start c.put_events.new.outputs o
-    → let cut = c.put_cuts_among.new.outputs in StandBetween start cut o (with_cuts o (cuts_among c.args.part.now.segments.now (cuts_at c.put_events.new.captures.ports.items c.put_events.new.captures.underlay c.put_events.new.turns))) × FailedAt c.in-Err-put_cuts_among.target start cut
+    → let cut = c.put_cuts_among.new.outputs in StandBetween start cut o (with_cuts o (cuts_among c.args.part.now.segments.now (cuts_at c.put_events.new.captures.ports.items c.put_events.new.captures.underlay c.put_events.new.taker.turns.items))) × FailedAt c.in-Err-put_cuts_among.target start cut
 lines_failed g c n put =
     let start = c.args.outputs.now in
     let o = texts_behind c.args.part.now.segments.now c.args.part.now.changes.now (state_of c.args.taker.now.endpoint) (empty_outputs n) (g.S.Sieve.taken c.args.sieve.now c.in_default-put_events.ensures.run.watched.run.es) in
     let cut = c.put_cuts_among.new.outputs in
-    subst (λ ts. StandBetween start cut o (with_cuts o (cuts_among c.args.part.now.segments.now (cuts_at c.put_events.new.captures.ports.items c.put_events.new.captures.underlay ts))) × FailedAt c.in-Err-put_cuts_among.target start cut) refl
+    subst (λ ts. StandBetween start cut o (with_cuts o (cuts_among c.args.part.now.segments.now (cuts_at c.put_events.new.captures.ports.items c.put_events.new.captures.underlay ts))) × FailedAt c.in-Err-put_cuts_among.target start cut) c.as_slice-turns.ensures.value
     (c.in-Err-put_cuts_among.ensures start o put)
 
 -- ---- a capture can't be opened
@@ -183,15 +193,15 @@ returns-in-Err-put_events-clause-done g c settings is =
       left = leaves_events (g.S.Sieve.taken c.args.sieve.now) (g.S.Sieve.none c.args.sieve.now) c.args.part.now.segments.now settings c.args.part.now.changes.now (ends c.args.captures.now.ports.items c.args.captures.now.underlay start) (ends c.put_events.new.captures.ports.items c.put_events.new.captures.underlay c.put_events.new.outputs) (state_of c.args.taker.now.endpoint) run.es run.more c.in-Err-put_events.fault is.state_is run.part run.numbered
           (run.outputs start (empty_outputs n) (headers n is.many)) (run.order start (empty_outputs n) (headers n is.many));
       shown = shows_events (g.S.Sieve.taken c.args.sieve.now) (g.S.Sieve.none c.args.sieve.now) c.args.part.now.segments.now settings c.args.part.now.changes.now start begun g.T.Watch.sees g.T.Watch.ends c.args.watch.now
-          (run_at c.fetch_all.new.captures.ports.items c.fetch_all.new.captures.underlay c.fetch_all.new.turns (state_of c.args.taker.now.endpoint) 0 begun) _ is.state_is (headers n is.many) c.put_events.new.watch c.in-Err-put_events.fault c.in-Err-put_events.ensures.run.watched;
+          (run_at c.fetch_all.new.captures.ports.items c.fetch_all.new.captures.underlay (turns_behind g w.In_default-fetch_all) (state_of c.args.taker.now.endpoint) 0 begun) _ is.state_is (headers n is.many) c.put_events.new.watch c.in-Err-put_events.fault c.in-Err-put_events.ensures.run.watched;
       over = λ texts text tells.
           let many = tells_texts c.args.captures.now.ports.items c.args.captures.now.underlay texts text tells in
           let at = headers (length texts) many in
           let first = read g w.In_default-fetch_all texts text (at_first g w.After-fetch_all texts text tells) in
           record {
-            left = over_run (g.S.Sieve.taken c.args.sieve.now) (g.S.Sieve.none c.args.sieve.now) c.args.part.now.segments.now settings c.args.part.now.changes.now texts text start c.fetch_all.new.captures.ports.items c.fetch_all.new.captures.underlay c.fetch_all.new.turns (state_of c.args.taker.now.endpoint) begun _ all_ready first at is.state_is c.in-Err-put_events.fault run;
-            reached = reach_run (g.S.Sieve.taken c.args.sieve.now) (g.S.Sieve.none c.args.sieve.now) c.args.part.now.segments.now settings c.args.part.now.changes.now texts text start c.fetch_all.new.captures.ports.items c.fetch_all.new.captures.underlay c.fetch_all.new.turns (state_of c.args.taker.now.endpoint) begun _ all_ready first at is.state_is c.in-Err-put_events.fault run;
-            seen = seen_run (g.S.Sieve.taken c.args.sieve.now) (g.S.Sieve.none c.args.sieve.now) c.args.part.now.segments.now settings c.args.part.now.changes.now texts text start c.fetch_all.new.captures.ports.items c.fetch_all.new.captures.underlay c.fetch_all.new.turns (state_of c.args.taker.now.endpoint) begun _ all_ready first at is.state_is
+            left = over_run (g.S.Sieve.taken c.args.sieve.now) (g.S.Sieve.none c.args.sieve.now) c.args.part.now.segments.now settings c.args.part.now.changes.now texts text start c.fetch_all.new.captures.ports.items c.fetch_all.new.captures.underlay (turns_behind g w.In_default-fetch_all) (state_of c.args.taker.now.endpoint) begun _ all_ready first at is.state_is c.in-Err-put_events.fault run;
+            reached = reach_run (g.S.Sieve.taken c.args.sieve.now) (g.S.Sieve.none c.args.sieve.now) c.args.part.now.segments.now settings c.args.part.now.changes.now texts text start c.fetch_all.new.captures.ports.items c.fetch_all.new.captures.underlay (turns_behind g w.In_default-fetch_all) (state_of c.args.taker.now.endpoint) begun _ all_ready first at is.state_is c.in-Err-put_events.fault run;
+            seen = seen_run (g.S.Sieve.taken c.args.sieve.now) (g.S.Sieve.none c.args.sieve.now) c.args.part.now.segments.now settings c.args.part.now.changes.now texts text start c.fetch_all.new.captures.ports.items c.fetch_all.new.captures.underlay (turns_behind g w.In_default-fetch_all) (state_of c.args.taker.now.endpoint) begun _ all_ready first at is.state_is
                 g.T.Watch.sees g.T.Watch.ends c.args.watch.now c.in-Err-put_events.fault c.put_events.new.watch c.in-Err-put_events.ensures.run.watched;
             went = tt;
           };
@@ -216,22 +226,24 @@ returns-in-Ok-clause-done g c settings is =
     let run = c.in_default-put_events.ensures.run.watched.run in
     let put = events_written g w.After-put_cuts_among in
     let n = length settings.ports in
-    let lines = c.in-Ok.ensures start (texts_put g w.After-put_cuts_among n) (put n (headers n is.many)) in
+    let lines = λ (n : ℕ) (at : StandAt start begun (empty_outputs n)).
+    subst (λ ts. StandAt start cut (with_cuts (texts_put g w.After-put_cuts_among n) (cuts_among c.args.part.now.segments.now (cuts_at c.put_events.new.captures.ports.items c.put_events.new.captures.underlay ts)))) c.as_slice-turns.ensures.value
+    (c.in-Ok.ensures start (texts_put g w.After-put_cuts_among n) (put n at)) in
     record {
-      left = leaves_all (g.S.Sieve.taken c.args.sieve.now) (g.S.Sieve.none c.args.sieve.now) c.args.part.now.segments.now settings c.args.part.now.changes.now (ends c.args.captures.now.ports.items c.args.captures.now.underlay start) (ends c.put_events.new.captures.ports.items c.put_events.new.captures.underlay cut) (state_of c.args.taker.now.endpoint) run.es (cuts_among c.args.part.now.segments.now (cuts_at c.put_events.new.captures.ports.items c.put_events.new.captures.underlay c.put_events.new.turns)) is.state_is lines;
+      left = leaves_all (g.S.Sieve.taken c.args.sieve.now) (g.S.Sieve.none c.args.sieve.now) c.args.part.now.segments.now settings c.args.part.now.changes.now (ends c.args.captures.now.ports.items c.args.captures.now.underlay start) (ends c.put_events.new.captures.ports.items c.put_events.new.captures.underlay cut) (state_of c.args.taker.now.endpoint) run.es (cuts_among c.args.part.now.segments.now (cuts_at c.put_events.new.captures.ports.items c.put_events.new.captures.underlay c.put_events.new.taker.turns.items)) is.state_is (lines n (headers n is.many));
       shown = shows_all (g.S.Sieve.taken c.args.sieve.now) (g.S.Sieve.none c.args.sieve.now) c.args.part.now.segments.now settings c.args.part.now.changes.now start cut g.T.Watch.sees g.T.Watch.ends c.args.watch.now
-          (run_at c.fetch_all.new.captures.ports.items c.fetch_all.new.captures.underlay c.fetch_all.new.turns (state_of c.args.taker.now.endpoint) 0 begun) _ is.state_is (headers n is.many) c.put_events.new.watch (cuts_among c.args.part.now.segments.now (cuts_at c.put_events.new.captures.ports.items c.put_events.new.captures.underlay c.put_events.new.turns)) c.end.new.self c.in_default-put_events.ensures.run.watched lines c.end.ensures;
+          (run_at c.fetch_all.new.captures.ports.items c.fetch_all.new.captures.underlay (turns_behind g w.In_default-fetch_all) (state_of c.args.taker.now.endpoint) 0 begun) _ is.state_is (headers n is.many) c.put_events.new.watch (cuts_among c.args.part.now.segments.now (cuts_at c.put_events.new.captures.ports.items c.put_events.new.captures.underlay c.put_events.new.taker.turns.items)) c.end.new.self c.in_default-put_events.ensures.run.watched (lines n (headers n is.many)) c.end.ensures;
       over = λ texts text tells.
           let many = tells_texts c.args.captures.now.ports.items c.args.captures.now.underlay texts text tells in
           let at = headers (length texts) many in
           let first = read g w.In_default-fetch_all texts text (at_first g w.After-fetch_all texts text tells) in
           record {
-            left = over_whole (g.S.Sieve.taken c.args.sieve.now) (g.S.Sieve.none c.args.sieve.now) c.args.part.now.segments.now settings c.args.part.now.changes.now texts text start c.fetch_all.new.captures.ports.items c.fetch_all.new.captures.underlay c.fetch_all.new.turns (state_of c.args.taker.now.endpoint) begun _ all_ready first at is.state_is cut run (sym many ∙ is.many)
-                (subst (λ ts. StandAt start cut (with_cuts (texts_put g w.After-put_cuts_among (length texts)) (cuts_among c.args.part.now.segments.now (cuts_at c.put_events.new.captures.ports.items c.put_events.new.captures.underlay ts)))) refl (c.in-Ok.ensures start (texts_put g w.After-put_cuts_among (length texts)) (put (length texts) at)));
-            reached = reach_whole (g.S.Sieve.taken c.args.sieve.now) (g.S.Sieve.none c.args.sieve.now) c.args.part.now.segments.now settings c.args.part.now.changes.now texts text start c.fetch_all.new.captures.ports.items c.fetch_all.new.captures.underlay c.fetch_all.new.turns (state_of c.args.taker.now.endpoint) begun _ all_ready first at is.state_is cut run;
-            seen = seen_whole (g.S.Sieve.taken c.args.sieve.now) (g.S.Sieve.none c.args.sieve.now) c.args.part.now.segments.now settings c.args.part.now.changes.now texts text start c.fetch_all.new.captures.ports.items c.fetch_all.new.captures.underlay c.fetch_all.new.turns (state_of c.args.taker.now.endpoint) begun _ all_ready first at is.state_is
+            left = over_whole (g.S.Sieve.taken c.args.sieve.now) (g.S.Sieve.none c.args.sieve.now) c.args.part.now.segments.now settings c.args.part.now.changes.now texts text start c.fetch_all.new.captures.ports.items c.fetch_all.new.captures.underlay (turns_behind g w.In_default-fetch_all) (state_of c.args.taker.now.endpoint) begun _ all_ready first at is.state_is cut run (sym many ∙ is.many)
+                (lines (length texts) at);
+            reached = reach_whole (g.S.Sieve.taken c.args.sieve.now) (g.S.Sieve.none c.args.sieve.now) c.args.part.now.segments.now settings c.args.part.now.changes.now texts text start c.fetch_all.new.captures.ports.items c.fetch_all.new.captures.underlay (turns_behind g w.In_default-fetch_all) (state_of c.args.taker.now.endpoint) begun _ all_ready first at is.state_is cut run;
+            seen = seen_whole (g.S.Sieve.taken c.args.sieve.now) (g.S.Sieve.none c.args.sieve.now) c.args.part.now.segments.now settings c.args.part.now.changes.now texts text start c.fetch_all.new.captures.ports.items c.fetch_all.new.captures.underlay (turns_behind g w.In_default-fetch_all) (state_of c.args.taker.now.endpoint) begun _ all_ready first at is.state_is
                 g.T.Watch.sees g.T.Watch.ends c.args.watch.now cut c.put_events.new.watch c.end.new.self c.in_default-put_events.ensures.run.watched c.end.ensures;
-            went = went_whole (g.S.Sieve.taken c.args.sieve.now) (g.S.Sieve.none c.args.sieve.now) c.args.part.now.segments.now settings c.args.part.now.changes.now texts text start c.fetch_all.new.captures.ports.items c.fetch_all.new.captures.underlay c.fetch_all.new.turns (state_of c.args.taker.now.endpoint) begun _ all_ready first at is.state_is
+            went = went_whole (g.S.Sieve.taken c.args.sieve.now) (g.S.Sieve.none c.args.sieve.now) c.args.part.now.segments.now settings c.args.part.now.changes.now texts text start c.fetch_all.new.captures.ports.items c.fetch_all.new.captures.underlay (turns_behind g w.In_default-fetch_all) (state_of c.args.taker.now.endpoint) begun _ all_ready first at is.state_is
                 g.S.Sieve.goes c.args.sieve.now c.put_events.new.sieve run c.in_default-put_events.ensures.run.went;
           };
     }
@@ -251,18 +263,18 @@ returns-in-Err-put_cuts_among-clause-done g c settings is =
     let n = length settings.ports in
     let failed = lines_failed g w.In-Err-put_cuts_among n (put n (headers n is.many)) in
     record {
-      left = leaves_cuts (g.S.Sieve.taken c.args.sieve.now) (g.S.Sieve.none c.args.sieve.now) c.args.part.now.segments.now settings c.args.part.now.changes.now (ends c.args.captures.now.ports.items c.args.captures.now.underlay start) (ends c.put_events.new.captures.ports.items c.put_events.new.captures.underlay cut) (state_of c.args.taker.now.endpoint) run.es (cuts_among c.args.part.now.segments.now (cuts_at c.put_events.new.captures.ports.items c.put_events.new.captures.underlay c.put_events.new.turns)) c.in-Err-put_cuts_among.target is.state_is failed;
+      left = leaves_cuts (g.S.Sieve.taken c.args.sieve.now) (g.S.Sieve.none c.args.sieve.now) c.args.part.now.segments.now settings c.args.part.now.changes.now (ends c.args.captures.now.ports.items c.args.captures.now.underlay start) (ends c.put_events.new.captures.ports.items c.put_events.new.captures.underlay cut) (state_of c.args.taker.now.endpoint) run.es (cuts_among c.args.part.now.segments.now (cuts_at c.put_events.new.captures.ports.items c.put_events.new.captures.underlay c.put_events.new.taker.turns.items)) c.in-Err-put_cuts_among.target is.state_is failed;
       shown = shows_cuts (g.S.Sieve.taken c.args.sieve.now) (g.S.Sieve.none c.args.sieve.now) c.args.part.now.segments.now settings c.args.part.now.changes.now start cut g.T.Watch.sees g.T.Watch.ends c.args.watch.now
-          (run_at c.fetch_all.new.captures.ports.items c.fetch_all.new.captures.underlay c.fetch_all.new.turns (state_of c.args.taker.now.endpoint) 0 begun) _ is.state_is (headers n is.many) c.put_events.new.watch (cuts_among c.args.part.now.segments.now (cuts_at c.put_events.new.captures.ports.items c.put_events.new.captures.underlay c.put_events.new.turns)) c.in-Err-put_cuts_among.target c.in_default-put_events.ensures.run.watched failed.0;
+          (run_at c.fetch_all.new.captures.ports.items c.fetch_all.new.captures.underlay (turns_behind g w.In_default-fetch_all) (state_of c.args.taker.now.endpoint) 0 begun) _ is.state_is (headers n is.many) c.put_events.new.watch (cuts_among c.args.part.now.segments.now (cuts_at c.put_events.new.captures.ports.items c.put_events.new.captures.underlay c.put_events.new.taker.turns.items)) c.in-Err-put_cuts_among.target c.in_default-put_events.ensures.run.watched failed.0;
       over = λ texts text tells.
           let many = tells_texts c.args.captures.now.ports.items c.args.captures.now.underlay texts text tells in
           let at = headers (length texts) many in
           let first = read g w.In_default-fetch_all texts text (at_first g w.After-fetch_all texts text tells) in
           let lines = lines_failed g w.In-Err-put_cuts_among (length texts) (put (length texts) at) in
           record {
-            left = over_lines (g.S.Sieve.taken c.args.sieve.now) (g.S.Sieve.none c.args.sieve.now) c.args.part.now.segments.now settings c.args.part.now.changes.now texts text start c.fetch_all.new.captures.ports.items c.fetch_all.new.captures.underlay c.fetch_all.new.turns (state_of c.args.taker.now.endpoint) begun _ all_ready first at is.state_is cut c.in-Err-put_cuts_among.target run lines;
-            reached = reach_lines (g.S.Sieve.taken c.args.sieve.now) (g.S.Sieve.none c.args.sieve.now) c.args.part.now.segments.now settings c.args.part.now.changes.now texts text start c.fetch_all.new.captures.ports.items c.fetch_all.new.captures.underlay c.fetch_all.new.turns (state_of c.args.taker.now.endpoint) begun _ all_ready first at is.state_is cut c.in-Err-put_cuts_among.target run lines;
-            seen = seen_lines (g.S.Sieve.taken c.args.sieve.now) (g.S.Sieve.none c.args.sieve.now) c.args.part.now.segments.now settings c.args.part.now.changes.now texts text start c.fetch_all.new.captures.ports.items c.fetch_all.new.captures.underlay c.fetch_all.new.turns (state_of c.args.taker.now.endpoint) begun _ all_ready first at is.state_is
+            left = over_lines (g.S.Sieve.taken c.args.sieve.now) (g.S.Sieve.none c.args.sieve.now) c.args.part.now.segments.now settings c.args.part.now.changes.now texts text start c.fetch_all.new.captures.ports.items c.fetch_all.new.captures.underlay (turns_behind g w.In_default-fetch_all) (state_of c.args.taker.now.endpoint) begun _ all_ready first at is.state_is cut c.in-Err-put_cuts_among.target run lines;
+            reached = reach_lines (g.S.Sieve.taken c.args.sieve.now) (g.S.Sieve.none c.args.sieve.now) c.args.part.now.segments.now settings c.args.part.now.changes.now texts text start c.fetch_all.new.captures.ports.items c.fetch_all.new.captures.underlay (turns_behind g w.In_default-fetch_all) (state_of c.args.taker.now.endpoint) begun _ all_ready first at is.state_is cut c.in-Err-put_cuts_among.target run lines;
+            seen = seen_lines (g.S.Sieve.taken c.args.sieve.now) (g.S.Sieve.none c.args.sieve.now) c.args.part.now.segments.now settings c.args.part.now.changes.now texts text start c.fetch_all.new.captures.ports.items c.fetch_all.new.captures.underlay (turns_behind g w.In_default-fetch_all) (state_of c.args.taker.now.endpoint) begun _ all_ready first at is.state_is
                 g.T.Watch.sees g.T.Watch.ends c.args.watch.now cut c.in-Err-put_cuts_among.target c.put_events.new.watch c.in_default-put_events.ensures.run.watched lines;
             went = tt;
           };

@@ -48,4 +48,4 @@ run_on-requires-clause-opened g c = (c.args.job.settings, record { state_is = c.
 
 pub run_on-requires-clause-turns : goal.run_on-requires-clause-turns
 run_on-requires-clause-turns g c =
-    c.as_mut_slice.ensures.value ∙ c.in-Ok.ensures ∙ ap (λ n. first_turns c.args.job.changes.now (n + 1)) (c.len.ensures ∙ c.args.captures.now.ports.ok.0)
+    c.in-Ok.ensures ∙ ap (λ n. first_turns c.args.job.changes.now (n + 1)) (c.len.ensures ∙ c.args.captures.now.ports.ok.0)

@@ -1,10 +1,15 @@
-use Rattle.std.proofs.Common.{◌≡◌, ◌+◌, ◌-◌, ◌^◌, ◌∙◌, Bool, Err, List, ℕ, ap, arith, length, refl, slice_index_or, subst}
+use Rattle.std.proofs.Common.{◌≡◌, ◌<◌, ◌+◌, ◌-◌, ◌^◌, ◌∙◌, Bool, Err, Global, List, None, Vec, ℕ, ap, arith, length, refl, slice_index_or, subst, sym}
+use Rattle.std.proofs.lemmas.List.{get_or_default}
 use Rattle.stream_run.specs.Fault.{stopped}
+use Rattle.stream_run.specs.Fetched.{IsMoment}
 use Rattle.stream_run.specs.Steps.{IsAt}
+use Rattle.stream_run.specs.Turns.{IsFirst}
 use Rattle.stream_run.specs.declared.turn.Turn.{Turn}
 use Rattle.stream_run.proofs.Running.{ready_more, shown_begins, shown_breaks, shown_ends, shown_halts, shown_steps}
 use Rattle.stream_run.specs.Waiting.{IsOutAtHalt}
 use Rattle.stream_run.proofs.Waiting.{out_at_stop}
+use Rattle.stream_run.proofs.step.put_events.Given.{Over}
+use Rattle.stream_run.proofs.step.put_events.Goals.{In-Some}
 use Rattle.stream_run.proofs.step.put_events.Goals as goal
 
 pub loop-count-init : goal.loop-count-init
@@ -21,7 +26,21 @@ put_first-requires-clause-ready g c =
     ready_more c.args.part.now.changes.now _ (2 ^ 64 - 3) _ (omega (arith, run.many, c.loop-count-test.true)) run.has.ready
 
 pub find_first-requires : goal.find_first-requires
-find_first-requires g c = c.loop-count.invariant.run.has.ready.moments
+find_first-requires g c =
+    subst (λ (turns : List Turn). (t : Turn) (k : ℕ) → k < length turns → IsMoment (slice_index_or turns k t).next) (sym c.as_slice.ensures.value)
+    c.loop-count.invariant.run.has.ready.moments
+
+-- the event that comes first
+first : (g : Over) (c : In-Some g) → IsFirst c.loop-count.taker.turns.items (length c.loop-count.taker.turns.items) c.in-Some.first
+first g c = subst (λ (turns : List Turn). IsFirst turns (length turns) c.in-Some.first) c.as_slice.ensures.value c.in-Some.ensures
+
+pub put_first-requires-clause-first : goal.put_first-requires-clause-first
+put_first-requires-clause-first g c = first g (goal.at.put_first-requires-clause-first g c).In-Some
+
+pub put_first-requires-clause-done : goal.put_first-requires-clause-done
+put_first-requires-clause-done g c t =
+    let there = (first g (goal.at.put_first-requires-clause-done g c).In-Some).there in
+    ap (λ (x : Turn). x.done) (c.index.ensures ∙ get_or_default c.loop-count.taker.turns.items c.in-Some.first.index _ t there)
 
 pub loop-count-preserved : goal.loop-count-preserved
 loop-count-preserved g c =
@@ -33,15 +52,19 @@ loop-count-preserved g c =
     }
 
 pub returns-in_default-clause-run : goal.returns-in_default-clause-run
-returns-in_default-clause-run g c = shown_ends c.args.part.now.segments.now g.S.Sieve.taken g.S.Sieve.goes g.T.Watch.sees g.S.Sieve.none c.args.part.now.changes.now _ c.args.sieve.now c.args.watch.now _ c.loop-count._count _ _ c.loop-count.invariant.run c.in_default.ensures
+returns-in_default-clause-run g c = shown_ends c.args.part.now.segments.now g.S.Sieve.taken g.S.Sieve.goes g.T.Watch.sees g.S.Sieve.none c.args.part.now.changes.now _ c.args.sieve.now c.args.watch.now _ c.loop-count._count _ _ c.loop-count.invariant.run
+    (subst (λ (turns : List Turn). (t : Turn) (k : ℕ) → k < length turns → (slice_index_or turns k t).next ≡ None) c.as_slice.ensures.value c.in_default.ensures)
 
 pub returns-in-Err-clause-run : goal.returns-in-Err-clause-run
 returns-in-Err-clause-run g c =
-    let t = c.index-turns-first.result in
-    let many : length c.put_first.new.turns - 2 ≡ length c.loop-count.captures.ports.items = omega (arith, ap length c.in-Err.ensures.turns, c.loop-count.invariant.run.has.ready.size) in
+    let t = c.index.result.now in
+    let there = (first g (goal.at.returns-in-Err-clause-run g c).In-Some).there in
+    let same : t.done ≡ (slice_index_or c.loop-count.taker.turns.items c.in-Some.first.index t).done = ap (λ (x : Turn). x.done) c.index.ensures in
+    let many : c.len.result - 2 ≡ length c.loop-count.captures.ports.items =
+    omega (arith, c.len.ensures, c.put_first.new.taker.turns.ok.0, ap (λ (v : Vec Turn Global). length v.items) c.in-Err.ensures.turns, c.loop-count.invariant.run.has.ready.size) in
     shown_halts c.args.part.now.segments.now g.S.Sieve.taken g.S.Sieve.goes g.T.Watch.sees g.S.Sieve.none c.args.part.now.changes.now _ c.args.sieve.now c.args.watch.now _ _ c.loop-count._count _ _ _ _ _ c.in-Err.halt c.stopped_at.result c.tap_at-tap.result t c.loop-count.invariant.run c.in-Err.ensures.step
     (λ there. subst (λ (n : ℕ). IsAt n c.in-Some.first.index c.tap_at-tap.result) many (c.tap_at-tap.ensures there))
-    (c.stopped_at.ensures ∙ ap (λ (turns : List Turn). stopped c.tap_at-tap.result ((slice_index_or turns c.in-Some.first.index t).done + 1 + 1) c.in-Err.halt) c.in-Err.ensures.turns)
+    (c.stopped_at.ensures ∙ ap (λ (n : ℕ). stopped c.tap_at-tap.result n c.in-Err.halt) (omega (arith, same)))
 
 pub returns-clause-run : goal.returns-clause-run
 returns-clause-run g c =

@@ -8,8 +8,8 @@ use Rattle.stream_run.proofs.step.put_events.Given as goal
 abbrev pub invariant-loop-count : goal.invariant-loop-count
 invariant-loop-count g l = record {
   run : HasShown l.part.segments.now g.S.Sieve.taken g.S.Sieve.goes g.T.Watch.sees l.part.changes.now
-      (run_at l.initial.captures.ports.items l.initial.captures.underlay l.initial.turns (state_of l.initial.taker.endpoint) 0 l.initial.outputs)
-      (run_at l.captures.ports.items l.captures.underlay l.turns (state_of l.taker.endpoint) l.taker.scratch.number l.outputs)
+      (run_at l.initial.captures.ports.items l.initial.captures.underlay l.initial.taker.turns.items (state_of l.initial.taker.endpoint) 0 l.initial.outputs)
+      (run_at l.captures.ports.items l.captures.underlay l.taker.turns.items (state_of l.taker.endpoint) l.taker.scratch.number l.outputs)
       l._count l.initial.sieve l.sieve l.initial.watch l.watch;
   out : IsOutOrAll (g.S.Sieve.all l.sieve) l.captures.may_wait l.outputs;
   still : l.captures.may_wait ≡ l.initial.captures.may_wait;

@@ -6,6 +6,7 @@ use Rattle.echo_window.proofs.window.Window.forget_past.Given as goal
 abbrev pub invariant-loop-self : goal.invariant-loop-self
 invariant-loop-self l = record {
   within : l.self.within ≡ l.fn.self.within;
+  forgotten : l.self.forgotten ≡ l.fn.self.forgotten;
   recent : recent l.self.within l.moment l.self.came ≡ recent l.fn.self.within l.moment l.fn.self.came;
 }
 

@@ -23,6 +23,7 @@ module _ (c : After-push_back) where
     at = c.self.inside.passed + length c.held.result.now;
     next = 0;
     length = length c.args.sent.now.octets.now;
+    missing = c.args.sent.now.missing;
     bucket = c.bucket_of-bucket.result;
     is_taken = false;
   }

@@ -40,7 +40,7 @@ invariant_of-self c =
     let n = count-is _ _ _ (held-is c.self.view_is) in
     let h : c.args.i < length c.self.inside.kept.items = omega (arith, n, c.requires) in
     let k = c.index_mut-kept.result.now in
-    let x : Kept = record { moment = k.moment; at = k.at; next = k.next; length = k.length; bucket = k.bucket; is_taken = true } in
+    let x : Kept = record { moment = k.moment; at = k.at; next = k.next; length = k.length; missing = k.missing; bucket = k.bucket; is_taken = true } in
     let s = sound-take c.self.inside.gone c.self.inside.passed c.self.inside.kept.items c.self.inside.row c.self.inside.ends.items (deque_capacity c.self.inside.kept) c.args.i k x c.index_mut-ends.result.now
     c.self.invariant h c.index_mut-kept.ensures.value refl in
     let e : c.without.result ≡ ends_without c.self.inside.gone (c.self.inside.gone + c.args.i + 1) k.next (get_or c.self.inside.ends.items k.bucket c.index_mut-ends.result.now) =
@@ -52,7 +52,7 @@ returns-clause-window c =
     let v = held-is c.self.view_is in
     let h : c.args.i < length c.self.inside.kept.items = omega (arith, count-is _ _ _ v, c.requires) in
     let k = c.index_mut-kept.result.now in
-    let x : Kept = record { moment = k.moment; at = k.at; next = k.next; length = k.length; bucket = k.bucket; is_taken = true } in
+    let x : Kept = record { moment = k.moment; at = k.at; next = k.next; length = k.length; missing = k.missing; bucket = k.bucket; is_taken = true } in
     as-window _ _ _ _ _ (within-is c.self.view_is) (ap (λ n. c.self.inside.gone + n) (length-set c.self.inside.kept.items c.args.i x) ∙ records-is c.self.view_is) (octets-is c.self.view_is)
     (laid-take c.self.inside.passed c.self.inside.kept.items c.self.inside.row c.args.self.now.held c.args.i k x (as_sent (told c.args.received.now)) v c.self.invariant.is_laid h c.index_mut-kept.ensures.value refl)
 

@@ -1,4 +1,4 @@
-use Rattle.std.proofs.Common.{◌≡◌, ℕ, List, replicate, ap, ◌∙◌}
+use Rattle.std.proofs.Common.{ℕ, List, replicate, ap, ◌∙◌}
 use Rattle.record_match.specs.Delays.{Delays}
 use Rattle.record_match.proofs.tables.delays.DelayTable.new.Goals as goal
 

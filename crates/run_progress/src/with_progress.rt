@@ -11,12 +11,12 @@ use timeline::Event;
 /// Whoever looks on at a run, and beside it how far the run is, where that is shown. What a run says of whoever looks on is the
 /// same with it as without.
 #[derive(Drop)]
-pub struct Beside<'r, T, R> {
+pub struct WithProgress<'r, T, R> {
     pub watch: T,
     pub progress: Option<Progress<'r, R>>,
 }
 
-impl<'r, T: Watch, R: Clock + Eprint> Beside<'r, T, R> {
+impl<'r, T: Watch, R: Clock + Eprint> WithProgress<'r, T, R> {
     /// The run ended, or stopped at a fault: takes the line away, where one was shown.
     pub fn finish(&mut self)
         ensures { self.new.watch ≡ self.old.watch }
@@ -27,7 +27,7 @@ impl<'r, T: Watch, R: Clock + Eprint> Beside<'r, T, R> {
     }
 }
 
-impl<'r, T: Watch, R: Clock + Eprint> Watch for Beside<'r, T, R> {
+impl<'r, T: Watch, R: Clock + Eprint> Watch for WithProgress<'r, T, R> {
     ghost sees = { λ old s new. T.sees old.watch s new.watch };
 
     ghost expects = { λ old d new. T.expects old.watch d new.watch };

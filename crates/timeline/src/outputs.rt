@@ -5,8 +5,7 @@ use std::marker::Model;
 /// Where a run writes: the captures of the ports, that of port 1 first, the capture of the underlay, and the decision lines.
 ///
 /// Contracts see what was written to each and what it holds back, how often it failed, and whether its sink has given up. The
-/// output of the lines is no sink:
-/// it gives up at no time.
+/// output of the lines is no sink: it gives up at no time.
 #[derive(Drop)]
 pub struct Outputs<W: Output> {
     pub ports: Vec<Sink<W>>,
@@ -15,7 +14,7 @@ pub struct Outputs<W: Output> {
 }
 
 impl<W: Output> Model for Outputs<W> {
-    ghost use Rattle.stream_run.specs.Stage.{Drains, drains};
+    ghost use Rattle.timeline.specs.Drains.{Drains, drains};
 
     ghost Value = { Drains };
 

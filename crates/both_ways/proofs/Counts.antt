@@ -6,7 +6,7 @@ use Rattle.std.proofs.lemmas.List.Sums.{sum_by-cons}
 use Rattle.std.specs.List.{count_by}
 use Rattle.both_ways.specs.Laws.{CountsWhatIsLeftOut, happens_at, left_out, stands_at}
 use Rattle.both_ways.specs.Sieve.{Seen, behind, behind_all, fresh, happened, happens_in, is_input, is_taken}
-use Rattle.both_ways.specs.Told.{place_of, told_of}
+use Rattle.both_ways.specs.Told.{place_of}
 use Rattle.timeline.specs.declared.event.Event.{Event}
 use Rattle.timeline.specs.declared.event.Happening.{Happening}
 use Rattle.timeline.specs.declared.event.Happening.TheVariants as happenings
@@ -61,12 +61,12 @@ happened_counts : (s : Seen) (moment : ℕ) (h : Happening) (place : ℕ) → pl
     → get_or (happened s moment h).counts place 0 ≡ min (2 ^ 64 - 1) (get_or s.counts place 0 + more (happens_in s moment h) (happens_at place h))
 happened_counts s moment (happenings.Change index) place there few = as_it_is (2 ^ 64 - 1) (get_or s.counts place 0) few
 happened_counts s moment (happenings.Record tap c) place there few =
-    record_counts (is_input s.window (place_of tap) moment (told_of s.underlay tap c.octets)) s.counts (place_of tap) place (2 ^ 64 - 1) there few
+    record_counts (is_input s tap moment c) s.counts (place_of tap) place (2 ^ 64 - 1) there few
 
 happened_length : (s : Seen) (moment : ℕ) (h : Happening) → length (happened s moment h).counts ≡ length s.counts
 happened_length s moment (happenings.Change index) = refl
 happened_length s moment (happenings.Record tap c) =
-    record_length (is_input s.window (place_of tap) moment (told_of s.underlay tap c.octets)) s.counts (place_of tap) (min (2 ^ 64 - 1) (get_or s.counts (place_of tap) 0 + 1))
+    record_length (is_input s tap moment c) s.counts (place_of tap) (min (2 ^ 64 - 1) (get_or s.counts (place_of tap) 0 + 1))
 
 -- how many stand at a place, with one more in front
 count_more : (q : Bool) (p : Event → Bool) (e : Event) (es : List Event) → count_by p (if q then es else e ∷ es) ≡ more q (p e) + count_by p es
@@ -87,8 +87,8 @@ counts_behind s (e ∷ es) place there few =
     (count_by (stands_at place) (left_out s (e ∷ es))) one rest (count_more (is_taken s e) (stands_at place) e (left_out k es))
 
 pub counts_what_is_left_out : CountsWhatIsLeftOut
-counts_what_is_left_out within U es place there =
-    let s = fresh within U in
+counts_what_is_left_out within S cs es place there =
+    let s = fresh within S cs in
     let none : get_or s.counts place 0 ≡ 0 = get_or-replicate 256 place 0 0 there in
     let few : get_or s.counts place 0 ≤ 2 ^ 64 - 1 = below (2 ^ 64 - 1) (get_or s.counts place 0) none in
     let here : place < length s.counts = along place 256 (length s.counts) (sym (length-replicate {A = ℕ} 256 0)) there in

@@ -1,29 +1,37 @@
 -- What is forgotten along rows of events.
 use Rattle.std.proofs.Common.{◌≡◌, ◌≤◌, ℕ, ◌+◌, ◌-◌, ◌^◌, min, suc, List, [], ◌∷◌, ◌++◌, length, Option, Some, None, refl, ap, sym, ◌∙◌, arith}
 use Rattle.both_ways.specs.Laws.{CountsWhatIsForgotten, forgotten_ages, least, lost_to, lost_when}
-use Rattle.both_ways.specs.Sieve.{Seen, behind, behind_all, fresh, happened, window_behind}
-use Rattle.both_ways.specs.Told.{Bare, Came, Frame, Sent, Told, place_of, told_of}
-use Rattle.echo_window.specs.Echo.{Window, lesser, with_age, with_ages}
+use Rattle.both_ways.specs.Sieve.{Seen, behind, behind_all, entering, fresh, happened, window_asked, window_with}
+use Rattle.echo_window.specs.Echo.{Record, Window, lesser, with_age, with_ages}
 use Rattle.echo_window.specs.declared.forgotten.Forgotten.{Forgotten}
+use Rattle.timeline.specs.Captured.{Captured}
 use Rattle.timeline.specs.declared.event.Event.{Event}
 use Rattle.timeline.specs.declared.event.Happening.{Happening}
 use Rattle.timeline.specs.declared.event.Happening.TheVariants as happenings
+use Rattle.timeline.specs.declared.source.Tap.{Tap}
+use Rattle.timeline.specs.declared.source.Tap.TheVariants.{Port, Underlay as AtUnderlay}
 
 -- ages behind others
 with_both : (f : Forgotten) (first more : List ℕ) → with_ages f (first ++ more) ≡ with_ages (with_ages f first) more
 with_both f [] more = refl
 with_both f (age ∷ first) more = with_both (with_age f age) first more
 
--- at a record, and at what happens
-lost_here : (w : Window) (place moment : ℕ) (t : Told) → (window_behind w place moment t).forgotten ≡ with_ages w.forgotten (lost_to w place moment t)
-lost_here w place moment Sent = refl
-lost_here w place moment (Frame text) = refl
-lost_here w place moment (Came text) = refl
-lost_here w place moment Bare = refl
+-- when a frame comes in, and when a window is asked
+lost_here : (w : Window) (o : Option Record) → (window_with w o).forgotten ≡ with_ages w.forgotten (lost_to w o)
+lost_here w None = refl
+lost_here w (Some r) = refl
 
+asked_keeps : (w : Window) (tap : Tap) (moment : ℕ) (c : Captured) → (window_asked w tap moment c).forgotten ≡ w.forgotten
+asked_keeps w (Port port) moment c = refl
+asked_keeps w AtUnderlay moment c = refl
+
+-- at what happens
 lost_then : (s : Seen) (moment : ℕ) (h : Happening) → (happened s moment h).window.forgotten ≡ with_ages s.window.forgotten (lost_when s moment h)
 lost_then s moment (happenings.Change index) = refl
-lost_then s moment (happenings.Record tap c) = lost_here s.window (place_of tap) moment (told_of s.underlay tap c.octets)
+lost_then s moment (happenings.Record tap c) =
+    let w = window_asked s.window tap moment c in
+    let o = entering s tap moment c in
+    lost_here w o ∙ ap (λ (f : Forgotten). with_ages f (lost_to w o)) (asked_keeps s.window tap moment c)
 
 -- along some events
 lost_along : (s : Seen) (es : List Event) → (behind_all s es).window.forgotten ≡ with_ages s.window.forgotten (forgotten_ages s es)
@@ -69,8 +77,8 @@ turned : (m n : ℕ) → min (0 + n) m ≡ min m n
 turned m n = omega arith
 
 pub counts_what_is_forgotten : CountsWhatIsForgotten
-counts_what_is_forgotten within U es =
-    let s = fresh within U in
+counts_what_is_forgotten within S cs es =
+    let s = fresh within S cs in
     let ages = forgotten_ages s es in
     lost_along s es
     ∙ same (count_is s.window.forgotten ages (omega arith) ∙ turned (2 ^ 64 - 1) (length ages)) (least_is s.window.forgotten ages ∙ both_none (least ages))

@@ -1,5 +1,5 @@
 pub mod Told
 pub mod Sieve
+pub mod Members
 pub mod Laws
 pub mod Line
-pub mod Code

@@ -3,71 +3,112 @@
 --     taken        those of some events in a row that are
 --     behind       what is known behind an event
 --     behind_all   what is known behind some events in a row: its counts tell how many records at each place aren't input
-use Rattle.std.specs.Prelude.{◌≡◌, refl, ℕ, ◌+◌, ◌-◌, ◌^◌, min, Bool, true, false, is_none}
-use Rattle.std.specs.Prelude.{if◌then◌else◌, List, [], ◌∷◌, replicate, set, slice_index}
-use Rattle.std.specs.FinMap.{empty}
+use Rattle.std.specs.Prelude.{◌≡◌, refl, ℕ, ◌+◌, ◌-◌, ◌^◌, min, not, Bool, true, false, is_some}
+use Rattle.std.specs.Prelude.{if◌then◌else◌, List, [], ◌∷◌, length, replicate, set, slice_get, slice_index, Option, Some, None}
+use Rattle.both_ways.specs.declared.sieve.BothWays.{BothWays}
+use Rattle.both_ways.specs.Told.{brought, is_sent, no_places, place_of, untagged}
 use Rattle.echo_window.specs.Echo.{Record, Window, behind_entered, behind_met, echo_of, new_window}
-use Rattle.both_ways.specs.Told.{Told, Sent, Frame, Came, Bare, place_of, told_of}
+use Rattle.endpoint_core.specs.Arrival.{came_at, came_by}
+use Rattle.endpoint_core.specs.Change.{changed}
+use Rattle.endpoint_core.specs.Kept.{state_of}
+use Rattle.endpoint_core.specs.Settings.{Settings}
+use Rattle.overlay.specs.Ports.{is_port}
+use Rattle.overlay.specs.declared.settings.change.TimedChange.{TimedChange}
+use Rattle.timeline.specs.Captured.{Captured}
 use Rattle.timeline.specs.declared.event.Event.{Event}
 use Rattle.timeline.specs.declared.event.Happening.{Happening}
 use Rattle.timeline.specs.declared.event.Happening.TheVariants as happenings
-use Rattle.overlay.specs.declared.underlay.settings.Underlay.{Underlay}
+use Rattle.timeline.specs.declared.source.Tap.{Tap}
+use Rattle.timeline.specs.declared.source.Tap.TheVariants.{Port, Underlay as AtUnderlay}
 
--- what is known behind some events: the settings of the underlay; the frames that came in; and for each place by its number how
--- many records were left out there, up to the greatest number of 64 bits
+-- what is known behind some events: the settings in force, and the changes of the run; the frames that came in; and for each
+-- place by its number how many records were left out there, up to the greatest number of 64 bits
 pub record Seen : Type 0 where
-  pub underlay : Underlay
+  pub settings : Settings
+  pub changes : List TimedChange
   pub window : Window
   pub counts : List ℕ
 
--- no event was met yet: an echo comes at most so many nanoseconds behind its frame. The exceptions from the next hop say nothing
--- of what comes in
-abbrev pub fresh : ℕ → Underlay → Seen
-fresh within U = record {
-  underlay = record U { hops = empty };
-  window = new_window within;
-  counts = replicate 256 0;
+-- no event was met yet: an echo comes at most so many nanoseconds behind its frame
+abbrev pub fresh : ℕ → Settings → List TimedChange → Seen
+fresh within S changes = record { settings = S; changes = changes; window = new_window within; counts = replicate 256 0 }
+
+-- what the code knows
+abbrev pub seen_of : BothWays → Seen
+seen_of b = record {
+  settings = (state_of b.endpoint).bridges.settings;
+  changes = b.changes.items;
+  window = b.window;
+  counts = b.left_out;
 }
 
--- a frame at a place, as a window is told of it
-abbrev pub met : ℕ → ℕ → List ℕ → Record
-met place moment text = record { place = place; moment = moment; frame = text }
+-- the settings in force behind a change, or behind none
+abbrev pub changed_by : Option TimedChange → Settings → Settings
+changed_by None S = S
+changed_by (Some c) S = changed S c.change
 
--- what a record tells is input: all that others sent to the underlay, and at a port what is no echo of a frame that came in
-abbrev pub is_input : Window → ℕ → ℕ → Told → Bool
-is_input w place moment Sent = false
-is_input w place moment (Frame text) = is_none (echo_of w.within w.came (met place moment text))
-is_input w place moment (Came text) = true
-is_input w place moment Bare = true
+-- and behind that of this index
+abbrev pub settings_behind : List TimedChange → ℕ → Settings → Settings
+settings_behind changes index S = changed_by (slice_get changes index) S
 
--- the frames that came in, behind it
-abbrev pub window_behind : Window → ℕ → ℕ → Told → Window
-window_behind w place moment Sent = w
-window_behind w place moment (Frame text) = behind_met w (met place moment text)
-window_behind w place moment (Came text) = behind_entered w (met place moment text)
-window_behind w place moment Bare = w
+-- ---- a record
+
+-- a record at a port, as a window is asked of it
+abbrev pub asked : ℕ → ℕ → List ℕ → Record
+asked place moment b = record { place = place; moment = moment; frame = untagged b; awaited = no_places }
+
+-- at a port, it is an echo of a frame that came in
+abbrev pub is_echo : Window → ℕ → ℕ → List ℕ → Bool
+is_echo w place moment b = is_some (echo_of w.within w.came (asked place moment b))
+
+-- it is input: at a port what is no echo, and at the underlay all that others sent
+abbrev pub is_input : Seen → Tap → ℕ → Captured → Bool
+is_input s (Port port) moment c = not (is_echo s.window port moment c.octets)
+is_input s AtUnderlay moment c = not (is_sent s.settings.overlay.underlay c.octets)
+
+-- the frames that came in, once it was asked of it
+abbrev pub window_asked : Window → Tap → ℕ → Captured → Window
+window_asked w (Port port) moment c = behind_met w (asked port moment c.octets)
+window_asked w AtUnderlay moment c = w
+
+-- what comes in with it, if it is input, by the settings in force: the frame that it brings to a segment
+abbrev pub coming : Settings → Tap → ℕ → Captured → Option Record
+coming S (Port port) moment c =
+    if is_port (length S.ports.ports) port then brought S.ports port moment (came_at S.ports S.overlay port c.original c.octets) else None
+coming S AtUnderlay moment c = brought S.ports 0 moment (came_by S.overlay c.original c.octets)
+
+abbrev pub entering : Seen → Tap → ℕ → Captured → Option Record
+entering s tap moment c = if is_input s tap moment c then coming s.settings tap moment c else None
+
+-- the frames that came in, once one came in or none did
+abbrev pub window_with : Window → Option Record → Window
+window_with w None = w
+window_with w (Some r) = behind_entered w r
 
 -- one more at a place
 abbrev pub counted : List ℕ → ℕ → List ℕ
 counted counts place = set counts place (min (2 ^ 64 - 1) (slice_index counts place + 1))
 
+-- what is known behind a record
+abbrev pub record_behind : Seen → Tap → ℕ → Captured → Seen
+record_behind s tap moment c = record {
+  settings = s.settings;
+  changes = s.changes;
+  window = window_with (window_asked s.window tap moment c) (entering s tap moment c);
+  counts = if is_input s tap moment c then s.counts else counted s.counts (place_of tap);
+}
+
+-- ---- an event
+
 -- what happens is input: a change always
 abbrev pub happens_in : Seen → ℕ → Happening → Bool
 happens_in s moment (happenings.Change index) = true
-happens_in s moment (happenings.Record tap c) = is_input s.window (place_of tap) moment (told_of s.underlay tap c.octets)
-
--- what is known behind a record at a place, which tells this
-abbrev pub record_behind : Seen → ℕ → ℕ → Told → Seen
-record_behind s place moment told = record {
-  underlay = s.underlay;
-  window = window_behind s.window place moment told;
-  counts = if is_input s.window place moment told then s.counts else counted s.counts place;
-}
+happens_in s moment (happenings.Record tap c) = is_input s tap moment c
 
 -- what is known behind what happens
 abbrev pub happened : Seen → ℕ → Happening → Seen
-happened s moment (happenings.Change index) = s
-happened s moment (happenings.Record tap c) = record_behind s (place_of tap) moment (told_of s.underlay tap c.octets)
+happened s moment (happenings.Change index) = record s { settings = settings_behind s.changes index s.settings }
+happened s moment (happenings.Record tap c) = record_behind s tap moment c
 
 -- an event is input
 abbrev pub is_taken : Seen → Event → Bool
@@ -88,5 +129,5 @@ behind_all s [] = s
 behind_all s (e ∷ es) = behind_all (behind s e) es
 
 -- of none it takes none
-pub none_taken : (s : Seen) → taken s [] ≡ []
-none_taken s = refl
+pub none_taken : (b : BothWays) → taken (seen_of b) [] ≡ []
+none_taken b = refl

@@ -1,22 +1,25 @@
--- What a record of a capture tells of a frame, wherever the frame is met: at a port as it stands, at the underlay in a tunnel. A
--- frame is compared without its VLAN tag, since the port that it came in by and the one that it leaves by may tag it
--- differently, and a tunnel carries it without.
+-- What a record of a capture tells: who sent a packet, and which frame it brings to a segment. A frame is compared without its
+-- VLAN tag, since the port that it came in by and the one that it leaves by may tag it differently, and a tunnel carries it
+-- without.
 --     outer_source   who sent a packet
 --     untagged       a frame without its tag
---     carried        what a packet carries in a tunnel to the endpoint
---     told_of        what a record tells
-use Rattle.std.specs.Prelude.{ℕ, ◌==◌, ◌&&◌, ◌++◌, nat_le, Bool, false, is_some, if◌then◌else◌, List, length, take, drop, Option, Some, None}
-use Rattle.both_ways.specs.declared.told.Told.{Told as Read}
-use Rattle.both_ways.specs.declared.told.Told.TheVariants as reads
-use Rattle.decapsulate.specs.Arrival.{Packet, carried_reasons, frame_reasons, inner_of, kind_to, packet_in}
+--     outlets        the ports by which a frame may leave
+--     brought        what a frame that came to a segment tells a window
+use Rattle.std.specs.Prelude.{ℕ, ◌==◌, ◌&&◌, ◌++◌, nat_eq, nat_le, not, Bool, false, true, if◌then◌else◌}
+use Rattle.std.specs.Prelude.{List, [], ◌∷◌, length, take, drop, replicate, set, Option, Some, None, Result, Ok, Err}
+use Rattle.std.specs.List.{filter}
+use Rattle.echo_window.specs.Echo.{Record}
+use Rattle.endpoint_core.specs.Arrival.{Arrival}
 use Rattle.wire.specs.Datagram.{behind_tags, has_type}
 use Rattle.wire.specs.Ether.{Untagged, WithTag, CutShort, tag_split}
-use Rattle.wire.specs.First.{first}
+use Rattle.wire.specs.Frame.{Frame}
 use Rattle.wire.specs.Ip.{Family, Ip4, Ip6, source, version}
-use Rattle.wire.specs.Udp.{data_of}
+use Rattle.wire.specs.declared.ether.reason.Refused.{Refused}
 use Rattle.wire.specs.declared.ip_udp.addr.Addr.{Addr}
 use Rattle.timeline.specs.declared.source.Tap.{Tap}
 use Rattle.timeline.specs.declared.source.Tap.TheVariants.{Port, Underlay as AtUnderlay}
+use Rattle.overlay.specs.Ports.{Ports}
+use Rattle.overlay.specs.Row.{is_up, member_ports, row_at}
 use Rattle.overlay.specs.UnderlaySettings.{is_own}
 use Rattle.overlay.specs.declared.underlay.settings.Underlay.{Underlay}
 
@@ -59,43 +62,41 @@ outer_source b = typed_source (behind_tags b)
 abbrev pub is_sent : Underlay → List ℕ → Bool
 is_sent U b = elim (outer_source b) [ None ↦ false | Some a ↦ is_own U a ]
 
--- ---- what a record tells
+-- ---- which frame a record brings to a segment
 
--- what a record tells
-pub data Told : Type 0 where
-  -- a packet that the endpoint itself sent
-  Sent : Told
-  -- this frame at a port, without its tag: it came in there, or the switch sent it
-  Frame : (text : List ℕ) → Told
-  -- this frame, without its tag, in a packet that another sent to the endpoint: it came in
-  Came : (text : List ℕ) → Told
-  -- a packet that another sent, and that brings no frame to the endpoint
-  Bare : Told
+-- a frame is sent on by a port of these: it is up (IEEE 802.1Q, 8.4), and not the place where the frame came in
+abbrev pub is_outlet : Ports → ℕ → ℕ → ℕ → Bool
+is_outlet P vid place port = is_up (row_at P vid) port && not (nat_eq port place)
 
--- what a packet carries at the port of a kind of tunnel
-abbrev pub carried : Underlay → Packet → Told
-carried U p = elim (kind_to U p) [ None ↦ Bare | Some kind ↦ Came (untagged (inner_of kind (data_of p.payload))) ]
+-- the ports by which a frame of a segment may leave that came in at a place: the members of it that send it on
+abbrev pub outlets : Ports → ℕ → ℕ → List ℕ
+outlets P vid place = filter (is_outlet P vid place) (member_ports (row_at P vid))
 
--- what a packet of IP tells that another sent
-abbrev pub packet_told : Underlay → Packet → Told
-packet_told U p = if is_some (first (carried_reasons U p)) then Bare else carried U p
+-- a set of places, by the numbers of 256, with some more
+abbrev pub with_places : List Bool → List ℕ → List Bool
+with_places places [] = places
+with_places places (p ∷ ps) = with_places (set places p true) ps
 
--- what a record at the underlay tells that another sent
-abbrev pub others_told : Underlay → List ℕ → Told
-others_told U b = if is_some (first (frame_reasons b)) then Bare else packet_told U (packet_in b)
+-- that of none
+abbrev pub no_places : List Bool
+no_places = replicate 256 false
 
--- what a record at the underlay tells
-abbrev pub underlay_told : Underlay → List ℕ → Told
-underlay_told U b = if is_sent U b then Sent else others_told U b
+-- the octets of a frame, without its tag
+abbrev pub text_of : Frame → List ℕ
+text_of f = (f.dst ++ f.src) ++ f.body
 
--- what a record tells: these octets, captured at a place
-abbrev pub told_of : Underlay → Tap → List ℕ → Told
-told_of U (Port port) b = Frame (untagged b)
-told_of U AtUnderlay b = underlay_told U b
+-- what a window is told of a frame that came in at a place and may leave by these ports
+abbrev pub brought_to : ℕ → ℕ → Frame → List ℕ → Option Record
+brought_to place moment f [] = None
+brought_to place moment f (p ∷ ps) = Some (record {
+  place = place;
+  moment = moment;
+  frame = text_of f;
+  awaited = with_places no_places (p ∷ ps);
+})
 
--- the same of what the code reads
-abbrev pub seen : Read → Told
-seen reads.Sent = Sent
-seen (reads.Frame frame) = Frame (frame.front.now ++ frame.rest.now)
-seen (reads.Came frame) = Came (frame.front.now ++ frame.rest.now)
-seen reads.Bare = Bare
+-- what a window is told of a frame that came to a segment by way of a place, where it may leave by any port; nothing of what was
+-- refused before
+abbrev pub brought : Ports → ℕ → ℕ → Result Arrival Refused → Option Record
+brought P place moment (Ok x) = brought_to place moment x.frame (outlets P x.vid place)
+brought P place moment (Err refused) = None

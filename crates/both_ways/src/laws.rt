@@ -1,5 +1,5 @@
 //! Laws of the definitions, as contracts of functions that do nothing.
-ghost use Rattle.both_ways.specs.Laws.{CountsWhatIsForgotten, CountsWhatIsLeftOut, TakesInTurn, TakesWhatOthersSent};
+ghost use Rattle.both_ways.specs.Laws.{CountsWhatIsForgotten, CountsWhatIsLeftOut, LeavesWhole, TakesInTurn, TakesWhatOthersSent};
 
 /// What is input of two rows of events, one behind the other, is what is of the first, and then what is of the second by all
 /// that is known behind the first.
@@ -16,6 +16,11 @@ pub fn counts_what_is_left_out()
 /// them and no others.
 pub fn takes_what_others_sent()
     ensures { TakesWhatOthersSent }
+{}
+
+/// Of events among which no frame stands at two places within the time, all are input but the packets that the endpoint sent.
+pub fn leaves_whole()
+    ensures { LeavesWhole }
 {}
 
 /// Behind the events of a run is told how many frames went for want of room although an echo of them might still have come, up

@@ -8,17 +8,18 @@
 //! Specs to read, in order: `specs/Told`, `specs/Sieve`, `specs/Laws`, `specs/Line`, and `echo_window`'s `specs/Echo`.
 //!
 //! Proved: of every row of events, those are input that the definition takes, one by one: each change; at a port each
-//! frame that is no echo of one that came in elsewhere, but for one VLAN tag; at the underlay each packet that hasn't an
-//! own address of the endpoint as its outer source, wherever that can be read, and no other
-//! ([`laws::takes_what_others_sent`]). Rows behind one another are taken as one ([`laws::takes_in_turn`]). Behind a run
-//! each count tells how many records of its place were left out ([`laws::counts_what_is_left_out`]), and another how many
-//! frames were forgotten although an echo of them might still have come, with the least age of one of them
-//! ([`laws::counts_what_is_forgotten`]), up to the greatest number of 64 bits.
+//! frame that is no echo of one that came to a segment elsewhere which sends frames out there by the settings in force, but
+//! for one VLAN tag; at the underlay each packet that hasn't an own address of the endpoint as its outer source, wherever
+//! that can be read, and no other ([`laws::takes_what_others_sent`]). So captures in which no frame stands at two places
+//! within the time are left whole but for those packets ([`laws::leaves_whole`]). Rows behind one another are taken as one
+//! ([`laws::takes_in_turn`]). Behind a run each count tells how many records of its place were left out
+//! ([`laws::counts_what_is_left_out`]), and another how many frames were forgotten although an echo of them might still
+//! have come, with the least age of one of them ([`laws::counts_what_is_forgotten`]), up to the greatest number of 64 bits.
 //!
 //! Proved besides:
 //! - Which events of a run are input, each in turn, where captures hold both directions: at a port no echo of a frame
-//!   that came in elsewhere, whatever its VLAN tag or its tunnel, and at the underlay no packet from an own address:
-//!   `BothWays::is_input`, `laws::takes_what_others_sent`.
+//!   of a segment that sends frames out there, whatever its VLAN tag or its tunnel, and at the underlay no packet from an
+//!   own address: `BothWays::is_input`, `laws::takes_what_others_sent`.
 //! - So a run is given it as its sieve, and its outputs are those of these events: `Sieve for BothWays`.
 //! - How many records of each place aren't input, up to 2^64 - 1: `BothWays::left_out`,
 //!   `laws::counts_what_is_left_out`.
@@ -29,22 +30,22 @@
 //! and is read first and alone: what is cut, damaged, or carries whatever it does was sent by who stands there. A frame
 //! that a packet of another brings came in, also where the same came in elsewhere a moment ago, as in a loop: it isn't
 //! asked for, and what leaves of it at ports are its echoes. At a port a record is taken for what the switch sent where a
-//! frame came in elsewhere that explains it, and once for each place. A frame is compared without its tag, since each
-//! port has its own way to tag. What a packet carries is read as the endpoint reads it, up to the segment, which changes
-//! may bring later: a packet that the endpoint refuses before brings no frame, and is input, so that a run tells its
-//! reason. A record that is cut is compared as it stands: of a frame and its echo, cut at different lengths, the echo is
-//! input, which a run refuses as Sliced. A frame that comes in at two ports at the same time, as a loop brings it, is
-//! input once: captures of one direction tell that better. How many frames come within the time no bound foresees: where
-//! they are more than fit, that is told, and what time would fit.
+//! frame came in elsewhere that explains it, and once for each port: one of a segment that sends frames out there. Which
+//! segment a frame comes to, and whether it is refused before, an endpoint tells that knows the changes of the run and
+//! nothing else: neither depends on tables. A frame is compared without its tag, since each port has its own way to tag. A
+//! frame that comes in at two ports at the same time, as a loop brings it, is input once: captures of one direction tell
+//! that better. How many frames come within the time no bound foresees: where they are more than fit, that is told, and
+//! what time would fit.
 #![tactic(auto)]
 
 mod asked;
+mod coming;
 pub mod laws;
 mod line;
 mod nobody;
+mod place;
 mod sender;
 mod sieve;
-mod told;
 
 pub use asked::{WITHIN, sieve_of};
 pub use line::ForgottenLine;

@@ -1,54 +1,51 @@
 //! The sieve.
-ghost use Rattle.std.specs.Prelude.{◌≡◌, ◌∷◌, ◌++◌, List, IfOk, if◌then◌else◌, is_none, refl, slice_index};
-ghost use Rattle.std.specs.FinMap.{empty};
-ghost use Rattle.echo_window.specs.Echo.{behind_entered, behind_met, echo_of};
-ghost use Rattle.echo_window.specs.Laid.{told as record_told};
+ghost use Rattle.std.specs.Prelude.{◌≡◌, ◌∷◌, ◌++◌, List, IfOk, if◌then◌else◌, is_some, slice_index};
+ghost use Rattle.echo_window.specs.Echo.{behind_met};
+ghost use Rattle.endpoint_core.specs.Opened.{settings_told};
+ghost use Rattle.timeline.specs.Captured.{Captured as ACaptured};
 ghost use Rattle.timeline.specs.declared.event.Event.{Event as AnEvent};
+ghost use Rattle.timeline.specs.declared.source.Tap.TheVariants.{Port, Underlay as AtUnderlay};
 ghost use Rattle.both_ways.specs.Line.{line_of};
-ghost use Rattle.both_ways.specs.Sieve.{behind, counted, fresh, is_input, is_taken, met, record_behind, taken, window_behind};
-ghost use Rattle.both_ways.specs.Told.{place_of, seen, told_of};
+ghost use Rattle.both_ways.specs.Sieve.{asked, behind, counted, fresh, is_echo, is_input, is_taken, none_taken, record_behind};
+ghost use Rattle.both_ways.specs.Sieve.{seen_of, settings_behind, taken};
+ghost use Rattle.both_ways.specs.Told.{place_of};
 
+use crate::coming::enter;
 use crate::line::ForgottenLine;
-use crate::told::{FrameText, Told, place_of, told_of};
-use echo_window::{Forgotten, Record, Window};
-use overlay::underlay::{Hops, Underlay};
+use crate::place::{place_of, untagged};
+use crate::sender::is_sent;
+use echo_window::{Forgotten, PlaceSet, Record, Window};
+use endpoint_core::Endpoint;
+use overlay_config::TimedChange;
 use std::alloc::{AllocError, Global};
-use std::marker::Model;
-use stream_run::Sieve;
-use timeline::{Event, Happening, Tap};
+use stream_run::{ReadTexts, Sieve};
+use timeline::{Captured, Event, Happening, Tap};
 
 /// How many numbers a place could have.
 const PLACES: usize = 256;
 
-/// Which events of a run are input. It knows the latest frames that came in, and counts what it leaves out. Only
-/// [`BothWays::new`] takes memory.
+/// Which events of a run are input. It knows the settings in force and the latest frames that came in, and counts what it leaves
+/// out. Only [`BothWays::new`] takes memory.
 #[derive(Drop)]
 pub struct BothWays {
-    underlay: Underlay,
+    /// One that is told the changes of the run, and nothing else: it has the settings in force.
+    endpoint: Endpoint,
+    changes: Vec<TimedChange>,
     window: Window,
     /// By the numbers of the places. Each number that a port could have has its count, so that none is looked for.
     left_out: [u64; PLACES],
 }
 
-impl Model for BothWays {
-    ghost use Rattle.both_ways.specs.Code.{seen_code};
-    ghost use Rattle.both_ways.specs.Sieve.{Seen};
-
-    ghost Value = { Seen };
-
-    ghost coded = { seen_code };
-
-    ghost view = { λ b. record { underlay = b.underlay; window = b.window; counts = b.left_out } };
-}
-
 impl BothWays {
-    /// No event was shown yet. An echo comes at most `within` nanoseconds behind the frame that it is of; the underlay's
-    /// settings are those of the run. `AllocError`: there was no memory for the frames that it may keep.
-    pub fn new(alloc: Global, within: u64, underlay: &Underlay) -> Result<BothWays, AllocError>
-        ensures { IfOk result (λ both. both ≡ fresh within underlay.now) }
+    /// No event was shown yet. An echo comes at most `within` nanoseconds behind the frame that it is of; the texts are those of
+    /// the run. `AllocError`: there was no memory for the frames that it may keep, or for the settings.
+    pub fn new(alloc: Global, within: u64, texts: ReadTexts) -> Result<BothWays, AllocError>
+        ensures { IfOk result (λ both. seen_of both ≡ fresh within (settings_told texts.settings) texts.changes.items) }
     {
+        let ReadTexts { settings, changes } = texts;
         Ok(BothWays {
-            underlay: copied(alloc, underlay)?,
+            endpoint: Endpoint::open(alloc, settings)?,
+            changes,
             window: Window::new(alloc, within)?,
             left_out: [0; PLACES],
         })
@@ -57,22 +54,23 @@ impl BothWays {
     /// Whether the next event is input. Where it isn't, it is counted at its place.
     #[inline(always)]
     pub fn is_input(&mut self, event: &Event) -> bool
-        ensures answer { result ≡ is_taken self.old event.now }
-        ensures behind { self.new ≡ behind self.old event.now }
-        ensures taken { (es : List AnEvent) → taken self.old (event.now ∷ es)
-            ≡ (if result then event.now ∷ taken self.new es else taken self.new es) }
+        ensures answer { result ≡ is_taken (seen_of self.old) event.now }
+        ensures behind { seen_of self.new ≡ behind (seen_of self.old) event.now }
+        ensures taken { (es : List AnEvent) → taken (seen_of self.old) (event.now ∷ es)
+            ≡ (if result then event.now ∷ taken (seen_of self.new) es else taken (seen_of self.new) es) }
     {
         match &event.happening {
-            Happening::Change(_) => true,
-            Happening::Record(tap, captured) => {
-                self.takes_record(*tap, event.moment, captured.octets)
+            Happening::Change(index) => {
+                self.make_change(*index);
+                true
             }
+            Happening::Record(tap, captured) => self.takes_record(*tap, event.moment, captured),
         }
     }
 
     /// How many records at a place weren't input, up to 2^64 - 1.
     pub fn left_out(&self, tap: Tap) -> u64
-        ensures { result ≡ slice_index self.now.counts (place_of tap) }
+        ensures { result ≡ slice_index (seen_of self.now).counts (place_of tap) }
     {
         self.left_out[usize::from(place_of(tap))]
     }
@@ -80,14 +78,14 @@ impl BothWays {
     /// What it forgot of the frames that came in for want of room, although an echo of it might still have come. With a time
     /// below the least age each of these would have been too early for one.
     pub fn forgotten(&self) -> Forgotten
-        ensures { result ≡ self.now.window.forgotten }
+        ensures { result ≡ (seen_of self.now).window.forgotten }
     {
         self.window.forgotten()
     }
 
     /// The line that tells of it, where it forgot any.
     pub fn forgotten_line(&self) -> Option<ForgottenLine>
-        ensures { result ≡ line_of self.now.window }
+        ensures { result ≡ line_of (seen_of self.now).window }
     {
         let forgotten = self.window.forgotten();
         if forgotten.count == 0 {
@@ -99,27 +97,84 @@ impl BothWays {
         })
     }
 
-    /// The same of a record at a place.
-    fn takes_record(&mut self, tap: Tap, moment: u64, octets: &[u8]) -> bool
-        ensures answer { result ≡ is_input self.old.window (place_of tap) moment (told_of self.old.underlay tap octets.now) }
-        ensures behind { self.new ≡ record_behind self.old (place_of tap) moment (told_of self.old.underlay tap octets.now) }
+    /// Makes the change of this index, or refuses it, as the run does. Of the settings moments say nothing.
+    fn make_change(&mut self, index: usize)
+        ensures { seen_of self.new ≡ record (seen_of self.old)
+            { settings = settings_behind (seen_of self.old).changes index (seen_of self.old).settings } }
     {
-        let place = place_of(tap);
-        let told = told_of(&self.underlay, tap, octets);
-        let is_input = meet(&mut self.window, place, moment, told);
+        if index < self.changes.len() {
+            let change = self.changes[index].change;
+            let now = self.endpoint.now();
+            let _ = self.endpoint.change(now, change);
+        }
+    }
+
+    /// Whether a record is input.
+    fn takes_record(&mut self, tap: Tap, moment: u64, captured: &Captured) -> bool
+        ensures answer { result ≡ is_input (seen_of self.old) tap moment captured.now }
+        ensures behind { seen_of self.new ≡ record_behind (seen_of self.old) tap moment captured.now }
+    {
+        let is_input = match tap {
+            Tap::Port(port) => self.takes_frame(port, moment, captured),
+            Tap::Underlay => self.takes_packet(moment, captured),
+        };
         if !is_input {
-            count(&mut self.left_out, place);
+            count(&mut self.left_out, place_of(tap));
         }
         is_input
+    }
+
+    /// Whether a record at a port is input, uncounted.
+    fn takes_frame(&mut self, port: u8, moment: u64, captured: &Captured) -> bool
+        ensures answer { result ≡ is_input (seen_of self.old) (Port port) moment captured.now }
+        ensures behind { seen_of self.new ≡ record (record_behind (seen_of self.old) (Port port) moment captured.now)
+            { counts = (seen_of self.old).counts } }
+    {
+        if is_echo(&mut self.window, port, moment, captured.octets) {
+            return false;
+        }
+        if port >= 1 && port <= self.endpoint.ports() {
+            let came = self
+                .endpoint
+                .frame_from(port, captured.original, captured.octets);
+            enter(
+                &mut self.window,
+                self.endpoint.state().ports(),
+                port,
+                moment,
+                &came,
+            );
+        }
+        true
+    }
+
+    /// Whether a record at the underlay is input, uncounted.
+    fn takes_packet(&mut self, moment: u64, captured: &Captured) -> bool
+        ensures answer { result ≡ is_input (seen_of self.old) AtUnderlay moment captured.now }
+        ensures behind { seen_of self.new ≡ record (record_behind (seen_of self.old) AtUnderlay moment captured.now)
+            { counts = (seen_of self.old).counts } }
+    {
+        if is_sent(self.endpoint.under().settings(), captured.octets) {
+            return false;
+        }
+        let came = self.endpoint.frame_in(captured.original, captured.octets);
+        enter(
+            &mut self.window,
+            self.endpoint.state().ports(),
+            0,
+            moment,
+            &came,
+        );
+        true
     }
 }
 
 impl Sieve for BothWays {
-    ghost taken = { taken };
+    ghost taken = { λ s. taken (seen_of s) };
 
-    ghost none = { λ s. refl };
+    ghost none = { none_taken };
 
-    ghost goes = { λ old e new. new ≡ behind old e };
+    ghost goes = { λ old e new. seen_of new ≡ behind (seen_of old) e };
 
     #[inline(always)]
     fn takes(&mut self, event: &Event) -> bool {
@@ -127,51 +182,20 @@ impl Sieve for BothWays {
     }
 }
 
-/// Shows a window what a record tells. Whether that is input.
-fn meet(window: &mut Window, place: u8, moment: u64, told: Told) -> bool
-    ensures answer { result ≡ is_input window.old place moment (seen told.entry) }
-    ensures behind { window.new ≡ window_behind window.old place moment (seen told.entry) }
+/// Whether a record at a port is an echo of a frame that came in, by a window that meets it.
+fn is_echo(window: &mut Window, port: u8, moment: u64, octets: &[u8]) -> bool
+    ensures answer { result ≡ is_echo window.old port moment octets.now }
+    ensures behind { window.new ≡ behind_met window.old (asked port moment octets.now) }
 {
-    match told {
-        Told::Sent => false,
-        Told::Frame(frame) => is_met_first(window, place, moment, frame),
-        Told::Came(frame) => {
-            enter(window, place, moment, frame);
-            true
-        }
-        Told::Bare => true,
-    }
-}
-
-/// Shows a window a frame at a place. Whether it is no echo.
-fn is_met_first(window: &mut Window, place: u8, moment: u64, frame: FrameText) -> bool
-    ensures answer { result ≡ is_none (echo_of window.old.within window.old.came
-        (met place moment (frame.entry.front.now ++ frame.entry.rest.now))) }
-    ensures behind { window.new ≡ behind_met window.old (met place moment (frame.entry.front.now ++ frame.entry.rest.now)) }
-{
-    let record = record_of(place, moment, frame);
-    window.meet(&record).is_none()
-}
-
-/// Shows a window a frame that came in at a place.
-fn enter(window: &mut Window, place: u8, moment: u64, frame: FrameText)
-    ensures { window.new ≡ behind_entered window.old (met place moment (frame.entry.front.now ++ frame.entry.rest.now)) }
-{
-    let record = record_of(place, moment, frame);
-    window.enter(&record);
-}
-
-/// A frame at a place, as a window is told of it.
-#[inline(always)]
-fn record_of(place: u8, moment: u64, frame: FrameText<'_>) -> Record<'_>
-    ensures { record_told result ≡ met place moment (frame.entry.front.now ++ frame.entry.rest.now) }
-{
-    Record {
-        place,
+    let frame = untagged(octets);
+    let record = Record {
+        place: port,
         moment,
         addresses: frame.front,
         rest: frame.rest,
-    }
+        awaited: &PlaceSet::new(),
+    };
+    window.meet(&record).is_some()
 }
 
 /// Counts one more at a place.
@@ -180,27 +204,4 @@ fn count(counts: &mut [u64; PLACES], place: u8)
 {
     let at = usize::from(place);
     counts[at] = counts[at].saturating_add(1);
-}
-
-/// The settings of the underlay, but for the exceptions from the next hop: those say nothing of what comes in.
-fn copied(alloc: Global, underlay: &Underlay) -> Result<Underlay, AllocError>
-    ensures { IfOk result (λ copy. copy ≡ record underlay.now { hops = empty }) }
-{
-    Ok(Underlay {
-        mac: underlay.mac,
-        next_hop: underlay.next_hop,
-        ip4: underlay.ip4,
-        ip6: underlay.ip6,
-        mtu: underlay.mtu,
-        ttl: underlay.ttl,
-        vxlan_port: underlay.vxlan_port,
-        geneve_port: underlay.geneve_port,
-        sum4: underlay.sum4,
-        sum6: underlay.sum6,
-        zero6: underlay.zero6,
-        partial: underlay.partial,
-        known: underlay.known.clone()?,
-        hops: Hops::new(alloc),
-        limits: underlay.limits,
-    })
 }

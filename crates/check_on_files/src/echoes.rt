@@ -89,7 +89,8 @@ fn sieve_behind<'j, R: Files + Input + AllocGlobal>(
     names: Names<'j, '_>,
     texts: &'j Texts,
 ) -> Option<BothWays> {
-    let Ok(Some(sieve)) = sieve_of(rt.alloc(), texts.settings.as_slice(), Some(WITHIN)) else {
+    let (settings, changes) = (texts.settings.as_slice(), texts.changes.as_slice());
+    let Ok(Some(sieve)) = sieve_of(rt.alloc(), settings, changes, Some(WITHIN)) else {
         return None;
     };
     let mut sieve = sieve;

@@ -1,7 +1,7 @@
 //! TOML tables (TOML 1.1) read key by key: a value for each key, or the first fault and the path of its key.
 //!
 //! Use first: [`Reader`] stands at one table and asks for its keys in order, each by a [`Column`] that says what its values
-//! mean; a list under one key is read by a [`ListColumn`], a list of tables by a [`Row`] for each. [`SettingsFault`] is what
+//! mean; a list under one key is read by a [`ListColumn`], a list of tables by a [`ListRow`] for each. [`SettingsFault`] is what
 //! can be wrong, with its [`Key`]. [`mac_of`] and [`addr_of`] read addresses, and [`cut`] parts a text at a separator.
 //!
 //! Specs to read: `specs/Fault`, then `specs/Table` and `specs/Column`; `specs/Address` for the texts of addresses.
@@ -34,4 +34,4 @@ pub use key::Key;
 pub use list_column::{ListColumn, gather};
 pub use parts::cut;
 pub use reader::Reader;
-pub use row::{Row, read_rows};
+pub use row::{ListRow, read_rows};

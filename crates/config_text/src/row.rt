@@ -1,6 +1,6 @@
 //! Lists of tables.
 //!
-//! A row says how long the paths of its tables may be (`Row::longest`), so that a segment's have room for a list of tables
+//! A row says how long the paths of its tables may be (`ListRow::longest`), so that a segment's have room for a list of tables
 //! below them and a path has still 40 octets at most.
 ghost use Rattle.std.specs.Prelude.{◌≡◌, ◌+◌, ◌≤◌, ◌<◌, ℕ, List, [], length, map, vec_len, IfOk};
 ghost use Rattle.toml.specs.View.{view};
@@ -13,7 +13,7 @@ use std::alloc::Global;
 use toml::Value;
 
 /// What a table of a list means, behind those before it.
-pub trait Row {
+pub trait ListRow {
     type Out: Drop;
 
     ghost use Rattle.config_text.specs.Reader.{place_of};
@@ -33,7 +33,7 @@ pub trait Row {
 /// The tables of a list, in order, each read behind those before it. What stands before their keys is no longer than
 /// their row takes, and leaves room for a key of 11 octets. The first fault is the answer: `BadValue` of an item's own
 /// path, as `port.2`, where it is no table, or what its row answers. `OutOfMemory`: memory was refused.
-pub fn read_rows<R: Row>(
+pub fn read_rows<R: ListRow>(
     alloc: Global,
     row: &R,
     name: &str,

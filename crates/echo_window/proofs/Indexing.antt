@@ -1,6 +1,6 @@
 -- Where frames are looked for.
-use Rattle.std.proofs.Common.{◌≡◌, ◌≢◌, ◌⊎◌, inl, inr, ℕ, ◌+◌, ◌-◌, ◌<◌, ◌≤◌, Bool, true, false, eqb, List, [], ◌∷◌, ◌++◌, length, get_or, set, take, drop, refl, sym, ap, ◌∙◌, zero, suc, subst, replicate, min, arith, length-append, length-drop, length-set}
-use Rattle.std.proofs.lemmas.List.{get_or_append_left, get_or-set_other}
+use Rattle.std.proofs.Common.{◌≡◌, ◌≢◌, ◌⊎◌, inl, inr, ℕ, ◌+◌, ◌-◌, ◌<◌, ◌≤◌, Bool, true, false, eqb, List, [], ◌∷◌, ◌++◌, length, map, get_or, set, take, drop, refl, sym, ap, ◌∙◌, zero, suc, subst, replicate, min, arith, length-append, length-drop, length-set}
+use Rattle.std.proofs.lemmas.List.{get_or_append_left, get_or-set_other, length-map, length-replicate, map-append}
 use Rattle.std.proofs.Math.Seq.{get_or-append_seam}
 use Rattle.std.proofs.lemmas.Bool.Decides.{eqb_tells}
 use Rattle.std.proofs.lemmas.Grind.{get_or-set_at}
@@ -141,81 +141,20 @@ placed-at passed (j ∷ ks) (suc i) d l h = omega (arith, placed-at (passed + j.
 
 -- ---- the lists that they stand for
 
-list-buckets-length : (came : List Arrival) → length (buckets came) ≡ length came
-list-buckets-length [] = refl
-list-buckets-length (c ∷ came) = ap suc (list-buckets-length came)
-
 pub buckets-length : (ks : List Kept) (row : List ℕ) → length (buckets (laid ks row)) ≡ length ks
-buckets-length ks row = list-buckets-length (laid ks row) ∙ laid-length ks row
+buckets-length ks row = length-map (laid ks row) (λ (c : Arrival). bucket_of c.frame) ∙ laid-length ks row
 
-pub befores-length : (ks : List Kept) → length (befores ks) ≡ length ks
-befores-length [] = refl
-befores-length (k ∷ ks) = ap suc (befores-length ks)
-
-pub places-length : (ks : List Kept) → length (places ks) ≡ length ks
-places-length [] = refl
-places-length (k ∷ ks) = ap suc (places-length ks)
-
-alikes-length : (ks : List Kept) → length (alikes ks) ≡ length ks
-alikes-length [] = refl
-alikes-length (k ∷ ks) = ap suc (alikes-length ks)
-
-pub place-at : (ks : List Kept) (i : ℕ) (d : Kept) → i < length ks → get_or (places ks) i 0 ≡ (get_or ks i d).place
-place-at [] i d l = absurd (omega (arith, l))
-place-at (k ∷ ks) zero d l = refl
-place-at (k ∷ ks) (suc i) d l = place-at ks i d (omega (arith, l))
-
-pub alike-at : (ks : List Kept) (i : ℕ) (d : Kept) → i < length ks → get_or (alikes ks) i false ≡ (get_or ks i d).alike
-alike-at [] i d l = absurd (omega (arith, l))
-alike-at (k ∷ ks) zero d l = refl
-alike-at (k ∷ ks) (suc i) d l = alike-at ks i d (omega (arith, l))
-
-pub bucket-at : (came : List Arrival) (i : ℕ) (d : Arrival) → i < length came → get_or (buckets came) i 0 ≡ bucket_of (get_or came i d).frame
-bucket-at [] i d l = absurd (omega (arith, l))
-bucket-at (c ∷ came) zero d l = refl
-bucket-at (c ∷ came) (suc i) d l = bucket-at came i d (omega (arith, l))
-
-pub before-at : (ks : List Kept) (i : ℕ) (d : Kept) → i < length ks → get_or (befores ks) i 0 ≡ (get_or ks i d).before
-before-at [] i d l = absurd (omega (arith, l))
-before-at (k ∷ ks) zero d l = refl
-before-at (k ∷ ks) (suc i) d l = before-at ks i d (omega (arith, l))
-
-buckets-append : (came : List Arrival) (c : Arrival) → buckets (came ++ c ∷ []) ≡ buckets came ++ bucket_of c.frame ∷ []
-buckets-append [] c = refl
-buckets-append (x ∷ came) c = ap (λ bs. bucket_of x.frame ∷ bs) (buckets-append came c)
-
-befores-append : (ks : List Kept) (k : Kept) → befores (ks ++ k ∷ []) ≡ befores ks ++ k.before ∷ []
-befores-append [] k = refl
-befores-append (j ∷ ks) k = ap (λ ns. j.before ∷ ns) (befores-append ks k)
-
-places-append : (ks : List Kept) (k : Kept) → places (ks ++ k ∷ []) ≡ places ks ++ k.place ∷ []
-places-append [] k = refl
-places-append (j ∷ ks) k = ap (λ ns. j.place ∷ ns) (places-append ks k)
-
-alikes-append : (ks : List Kept) (k : Kept) → alikes (ks ++ k ∷ []) ≡ alikes ks ++ k.alike ∷ []
-alikes-append [] k = refl
-alikes-append (j ∷ ks) k = ap (λ ns. j.alike ∷ ns) (alikes-append ks k)
-
-places-set : (ks : List Kept) (i : ℕ) (more d : Kept) → i < length ks → more.place ≡ (get_or ks i d).place → places (set ks i more) ≡ places ks
-places-set [] i more d l e = refl
-places-set (j ∷ ks) zero more d l e = ap (λ n. n ∷ places ks) e
-places-set (j ∷ ks) (suc i) more d l e = ap (λ ns. j.place ∷ ns) (places-set ks i more d (omega (arith, l)) e)
-
-alikes-set : (ks : List Kept) (i : ℕ) (more d : Kept) → i < length ks → more.alike ≡ (get_or ks i d).alike → alikes (set ks i more) ≡ alikes ks
-alikes-set [] i more d l e = refl
-alikes-set (j ∷ ks) zero more d l e = ap (λ n. n ∷ alikes ks) e
-alikes-set (j ∷ ks) (suc i) more d l e = ap (λ ns. j.alike ∷ ns) (alikes-set ks i more d (omega (arith, l)) e)
+-- what a frame tells, where one is in place of another that tells the same
+same-told : {X : Type 0} (f : Kept → X) (ks : List Kept) (i : ℕ) (more d : Kept) → i < length ks → f more ≡ f (get_or ks i d) → map f (set ks i more) ≡ map f ks
+same-told f [] i more d l e = refl
+same-told f (j ∷ ks) zero more d l e = ap (λ x. x ∷ map f ks) e
+same-told f (j ∷ ks) (suc i) more d l e = ap (λ xs. f j ∷ xs) (same-told f ks i more d (omega (arith, l)) e)
 
 -- a frame that was met again has the bucket that it had
 buckets-met : (m : Record) (came : List Arrival) (i : ℕ) → buckets (met_again m came i) ≡ buckets came
 buckets-met m [] i = refl
 buckets-met m (c ∷ came) zero = refl
 buckets-met m (c ∷ came) (suc i) = ap (λ bs. bucket_of c.frame ∷ bs) (buckets-met m came i)
-
-befores-set : (ks : List Kept) (i : ℕ) (more d : Kept) → i < length ks → more.before ≡ (get_or ks i d).before → befores (set ks i more) ≡ befores ks
-befores-set [] i more d l e = refl
-befores-set (j ∷ ks) zero more d l e = ap (λ n. n ∷ befores ks) e
-befores-set (j ∷ ks) (suc i) more d l e = ap (λ ns. j.before ∷ ns) (befores-set ks i more d (omega (arith, l)) e)
 
 -- ---- all of it
 
@@ -231,14 +170,14 @@ pub indexed-met : (gone passed : ℕ) (ks : List Kept) (row latest : List ℕ) (
     → IsIndexed gone passed ks row latest → IsIndexed gone passed (set ks i more) row latest
 indexed-met gone passed ks row latest i k more m l here a e b p f is h =
     let bs : buckets (laid (set ks i more) row) ≡ buckets (laid ks row) = ap (λ (cs : List Arrival). buckets cs) is ∙ buckets-met m (laid ks row) i in
-    let ns : befores (set ks i more) ≡ befores ks = befores-set ks i more k l (b ∙ ap (λ (x : Kept). x.before) here) in
+    let ns : befores (set ks i more) ≡ befores ks = same-told (λ (x : Kept). x.before) ks i more k l (b ∙ ap (λ (x : Kept). x.before) here) in
     record {
       linked = subst (λ xs. IsLinked gone xs (befores (set ks i more)) latest) (sym bs) (subst (λ xs. IsLinked gone (buckets (laid ks row)) xs latest) (sym ns) h.linked);
       placed = placed-set passed ks i more k l (a ∙ ap (λ (x : Kept). x.at) here) (e ∙ ap (λ (x : Kept). x.length) here) h.placed;
       alike =
           subst (λ xs. AreAlike xs (places (set ks i more)) (alikes (set ks i more))) (sym bs)
-          (subst (λ xs. AreAlike (buckets (laid ks row)) xs (alikes (set ks i more))) (sym (places-set ks i more k l (p ∙ ap (λ (x : Kept). x.place) here)))
-          (subst (λ xs. AreAlike (buckets (laid ks row)) (places ks) xs) (sym (alikes-set ks i more k l (f ∙ ap (λ (x : Kept). x.alike) here))) h.alike));
+          (subst (λ xs. AreAlike (buckets (laid ks row)) xs (alikes (set ks i more))) (sym (same-told (λ (x : Kept). x.place) ks i more k l (p ∙ ap (λ (x : Kept). x.place) here)))
+          (subst (λ xs. AreAlike (buckets (laid ks row)) (places ks) xs) (sym (same-told (λ (x : Kept). x.alike) ks i more k l (f ∙ ap (λ (x : Kept). x.alike) here))) h.alike));
     }
 
 pub indexed-put : (gone passed : ℕ) (ks : List Kept) (row latest : List ℕ) (k : Kept) (text : List ℕ) (b n : ℕ) → lengths ks ≡ length row → k.length ≡ length text
@@ -247,17 +186,17 @@ pub indexed-put : (gone passed : ℕ) (ks : List Kept) (row latest : List ℕ) (
     → IsIndexed gone passed ks row latest → IsIndexed gone passed (ks ++ k ∷ []) (row ++ text) (set latest b n)
 indexed-put gone passed ks row latest k text b n whole size is few number before at all h =
     let bs : buckets (laid (ks ++ k ∷ []) (row ++ text)) ≡ buckets (laid ks row) ++ b ∷ [] =
-    ap (λ (cs : List Arrival). buckets cs) (laid-put ks row k text whole size) ∙ buckets-append (laid ks row) (came_of k text) ∙ ap (λ x. buckets (laid ks row) ++ x ∷ []) (sym is) in
-    let ns : befores (ks ++ k ∷ []) ≡ befores ks ++ k.before ∷ [] = befores-append ks k in
-    let old = linked-put gone b n k.before (buckets (laid ks row)) (befores ks) latest (omega (arith, number, buckets-length ks row)) before (befores-length ks ∙ sym (buckets-length ks row)) few h.linked in
+    ap (λ (cs : List Arrival). buckets cs) (laid-put ks row k text whole size) ∙ map-append (λ (c : Arrival). bucket_of c.frame) (laid ks row) (came_of k text ∷ []) ∙ ap (λ x. buckets (laid ks row) ++ x ∷ []) (sym is) in
+    let ns : befores (ks ++ k ∷ []) ≡ befores ks ++ k.before ∷ [] = map-append (λ (x : Kept). x.before) ks (k ∷ []) in
+    let old = linked-put gone b n k.before (buckets (laid ks row)) (befores ks) latest (omega (arith, number, buckets-length ks row)) before (length-map ks (λ (x : Kept). x.before) ∙ sym (buckets-length ks row)) few h.linked in
     record {
       linked = subst (λ xs. IsLinked gone xs (befores (ks ++ k ∷ [])) (set latest b n)) (sym bs) (subst (λ xs. IsLinked gone (buckets (laid ks row) ++ b ∷ []) xs (set latest b n)) (sym ns) old);
       placed = placed-put passed ks k h.placed (omega (arith, at, whole));
       alike =
           subst (λ xs. AreAlike xs (places (ks ++ k ∷ [])) (alikes (ks ++ k ∷ []))) (sym bs)
-          (subst (λ xs. AreAlike (buckets (laid ks row) ++ b ∷ []) xs (alikes (ks ++ k ∷ []))) (sym (places-append ks k))
-          (subst (λ xs. AreAlike (buckets (laid ks row) ++ b ∷ []) (places ks ++ k.place ∷ []) xs) (sym (alikes-append ks k))
-          (alike-put b k.place k.alike (buckets (laid ks row)) (places ks) (alikes ks) (places-length ks ∙ sym (buckets-length ks row)) (alikes-length ks ∙ sym (buckets-length ks row)) all h.alike)));
+          (subst (λ xs. AreAlike (buckets (laid ks row) ++ b ∷ []) xs (alikes (ks ++ k ∷ []))) (sym (map-append (λ (x : Kept). x.place) ks (k ∷ [])))
+          (subst (λ xs. AreAlike (buckets (laid ks row) ++ b ∷ []) (places ks ++ k.place ∷ []) xs) (sym (map-append (λ (x : Kept). x.alike) ks (k ∷ [])))
+          (alike-put b k.place k.alike (buckets (laid ks row)) (places ks) (alikes ks) (length-map ks (λ (x : Kept). x.place) ∙ sym (buckets-length ks row)) (length-map ks (λ (x : Kept). x.alike) ∙ sym (buckets-length ks row)) all h.alike)));
     }
 
 -- ---- with the bounds
@@ -329,10 +268,6 @@ kept-none capacity gone passed ks row latest none room r g p blank = subst (λ (
 })
 
 -- no bucket has a frame
-zeros-length : (n : ℕ) → length {A = ℕ} (replicate n 0) ≡ n
-zeros-length zero = refl
-zeros-length (suc n) = ap suc (zeros-length n)
-
 zeros : (n b : ℕ) → ◌≡◌ {A = ℕ} (get_or (replicate n 0) b 0) 0
 zeros zero b = refl
 zeros (suc n) zero = refl
@@ -340,6 +275,6 @@ zeros (suc n) (suc b) = zeros n b
 
 pub blank-from : (n : ℕ) (latest : List ℕ) → n ≡ 16384 → latest ≡ replicate n 0 → IsBlank latest
 blank-from n latest size is = record {
-  buckets = ap (λ (xs : List ℕ). length xs) is ∙ zeros-length n ∙ size;
+  buckets = ap (λ (xs : List ℕ). length xs) is ∙ length-replicate n 0 ∙ size;
   none = λ b. ap (λ (xs : List ℕ). get_or xs b 0) is ∙ zeros n b;
 }

@@ -1,5 +1,5 @@
 -- Frames whose octets stand in one row.
-use Rattle.std.proofs.Common.{◌≡◌, ℕ, ◌+◌, ◌<◌, ◌≤◌, true, List, [], ◌∷◌, ◌++◌, length, map, get_or, set, take, drop, refl, ap, ◌∙◌, zero, suc, arith, length-append, length-drop, length-take}
+use Rattle.std.proofs.Common.{◌≡◌, ℕ, ◌+◌, ◌<◌, ◌≤◌, true, false, List, [], ◌∷◌, ◌++◌, length, map, get_or, set, take, drop, refl, ap, ◌∙◌, zero, suc, arith, length-append, length-drop, length-take}
 use Rattle.std.proofs.lemmas.List.{take-append-le, drop-append-le}
 use Rattle.std.proofs.lemmas.Grind.{common_steps}
 use Rattle.echo_window.specs.Echo.{Arrival, Record, first_met, met_again, met_at, octets_of}
@@ -59,7 +59,7 @@ lengths-within (j ∷ ks) (suc i) = omega (arith, lengths-within ks i)
 
 -- one of them, met again at a place
 pub laid-met : (ks : List Kept) (row : List ℕ) (i : ℕ) (k more : Kept) (m : Record) → i < length ks → k ≡ get_or ks i k
-    → more.place ≡ k.place → more.moment ≡ k.moment → more.length ≡ k.length → more.echoed ≡ set k.echoed m.place true
+    → more.place ≡ k.place → more.moment ≡ k.moment → more.length ≡ k.length → more.awaited ≡ set k.awaited m.place false
     → laid (set ks i more) row ≡ met_again m (laid ks row) i
 laid-met ks row i k more m h here p t l e =
     let at = laid-at ks row i k (first_met m) h in

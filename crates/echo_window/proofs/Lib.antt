@@ -7,5 +7,4 @@ mod Placing
 mod Showing
 mod Texts
 mod Recent
-mod Rows
 mod Searching

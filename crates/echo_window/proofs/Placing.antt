@@ -1,5 +1,5 @@
 -- The words of a set of places, bit by bit: what is read, and what a write leaves.
-use Rattle.std.proofs.Common.{◌≡◌, ◌≢◌, ◌⊎◌, ℕ, ◌/◌, ◌%◌, ◌<◌, zero, suc, true, false, eqb, List, [], ◌∷◌, length, get_or, set, replicate, refl, sym, ap, ◌∙◌, arith, inl, inr, length-set}
+use Rattle.std.proofs.Common.{◌≡◌, ◌≢◌, ◌⊎◌, ℕ, ◌/◌, ◌%◌, ◌<◌, zero, suc, Bool, true, false, eqb, List, [], ◌∷◌, length, get_or, set, replicate, refl, sym, ap, ◌∙◌, arith, inl, inr, length-set}
 use Rattle.std.proofs.lemmas.Bool.{cases_eq}
 use Rattle.std.proofs.lemmas.List.{ext_get_or, get_or-replicate, get_or-set_other, get_or-set_same, length-replicate}
 use Rattle.std.proofs.lemmas.List.FromFn.{get_or-map-range_with_len, length-map-range_with_len}
@@ -25,19 +25,19 @@ flags-none words none = ext_get_or false (flags_in words) (replicate 256 false) 
         let low : i < 256 = omega (arith, inside, flags-length words) in
         flags-at words i low ∙ ap (λ (w : ℕ). eqb (bit_at w (i % 64)) 1) (none (i / 64)) ∙ ap (λ (b : ℕ). eqb b 1) (bit_at-zero (i % 64)) ∙ sym (get_or-replicate 256 i false false low)
 
--- a word in another's place, which has one bit more
-pub flags-set : (words : List ℕ) (place x : ℕ) → place < 256 → place / 64 < length words → bit_at x (place % 64) ≡ 1
-    → ((i : ℕ) → i ≢ place % 64 → bit_at x i ≡ bit_at (get_or words (place / 64) 0) i) → flags_in (set words (place / 64) x) ≡ set (flags_in words) place true
-flags-set words place x low known one others =
-    ext_get_or false (flags_in (set words (place / 64) x)) (set (flags_in words) place true)
-    (flags-length (set words (place / 64) x) ∙ sym (length-set (flags_in words) place true ∙ flags-length words)) at
+-- a word in another's place, of which one bit may be another
+pub flags-set : (v : Bool) (words : List ℕ) (place x : ℕ) → place < 256 → place / 64 < length words → eqb (bit_at x (place % 64)) 1 ≡ v
+    → ((i : ℕ) → i < 64 → i ≢ place % 64 → bit_at x i ≡ bit_at (get_or words (place / 64) 0) i) → flags_in (set words (place / 64) x) ≡ set (flags_in words) place v
+flags-set v words place x low known one others =
+    ext_get_or false (flags_in (set words (place / 64) x)) (set (flags_in words) place v)
+    (flags-length (set words (place / 64) x) ∙ sym (length-set (flags_in words) place v ∙ flags-length words)) at
   where
     within : place < length (flags_in words)
     within = omega (arith, low, flags-length words)
 
     -- the word of a place
-    own : flag_at (set words (place / 64) x) place ≡ true
-    own = ap (λ (w : ℕ). eqb (bit_at w (place % 64)) 1) (get_or-set_same words (place / 64) x 0 known) ∙ ap (λ (b : ℕ). eqb b 1) one
+    own : flag_at (set words (place / 64) x) place ≡ v
+    own = ap (λ (w : ℕ). eqb (bit_at w (place % 64)) 1) (get_or-set_same words (place / 64) x 0 known) ∙ one
 
     -- that of another place: its own, or another bit of this
     other : (i : ℕ) → i ≢ place → (i / 64 ≡ place / 64) ⊎ (i / 64 ≢ place / 64) → flag_at (set words (place / 64) x) i ≡ flag_at words i
@@ -45,20 +45,20 @@ flags-set words place x low known one others =
         let bit : i % 64 ≢ place % 64 = λ e. away (omega (arith, e, same)) in
         ap (λ (k : ℕ). eqb (bit_at (get_or (set words (place / 64) x) k 0) (i % 64)) 1) same
         ∙ ap (λ (w : ℕ). eqb (bit_at w (i % 64)) 1) (get_or-set_same words (place / 64) x 0 known)
-        ∙ ap (λ (b : ℕ). eqb b 1) (others (i % 64) bit)
+        ∙ ap (λ (b : ℕ). eqb b 1) (others (i % 64) (omega arith) bit)
         ∙ ap (λ (k : ℕ). eqb (bit_at (get_or words k 0) (i % 64)) 1) (sym same)
     other i away (inr apart) = ap (λ (w : ℕ). eqb (bit_at w (i % 64)) 1) (get_or-set_other words (place / 64) (i / 64) x 0 apart)
 
-    by : (i : ℕ) → i < 256 → (i ≡ place) ⊎ (i ≢ place) → get_or (flags_in (set words (place / 64) x)) i false ≡ get_or (set (flags_in words) place true) i false
+    by : (i : ℕ) → i < 256 → (i ≡ place) ⊎ (i ≢ place) → get_or (flags_in (set words (place / 64) x)) i false ≡ get_or (set (flags_in words) place v) i false
     by i less (inl same) =
         ap (λ (k : ℕ). get_or (flags_in (set words (place / 64) x)) k false) same
         ∙ flags-at (set words (place / 64) x) place low ∙ own
-        ∙ sym (ap (λ (k : ℕ). get_or (set (flags_in words) place true) k false) same ∙ get_or-set_same (flags_in words) place true false within)
+        ∙ sym (ap (λ (k : ℕ). get_or (set (flags_in words) place v) k false) same ∙ get_or-set_same (flags_in words) place v false within)
     by i less (inr away) =
         flags-at (set words (place / 64) x) i less ∙ other i away (cases_eq (i / 64) (place / 64))
-        ∙ sym (get_or-set_other (flags_in words) place i true false away ∙ flags-at words i less)
+        ∙ sym (get_or-set_other (flags_in words) place i v false away ∙ flags-at words i less)
 
-    at : (i : ℕ) → i < length (flags_in (set words (place / 64) x)) → get_or (flags_in (set words (place / 64) x)) i false ≡ get_or (set (flags_in words) place true) i false
+    at : (i : ℕ) → i < length (flags_in (set words (place / 64) x)) → get_or (flags_in (set words (place / 64) x)) i false ≡ get_or (set (flags_in words) place v) i false
     at i inside = by i (omega (arith, inside, flags-length (set words (place / 64) x))) (cases_eq i place)
 
 -- four words of 0 have none

@@ -3,6 +3,7 @@ use Rattle.std.proofs.Common.{◌≡◌, ◌≢◌, ℕ, ◌+◌, ◌-◌, ◌<�
 use borrow.Author.Tests.{ltb-false, ltb-true}
 use Rattle.std.proofs.lemmas.Bool.{and_parts, eq-eqb, eqb-true}
 use Rattle.std.proofs.lemmas.Bool.Decides.{eqb_tells}
+use Rattle.std.proofs.lemmas.List.{get_or-map}
 use Rattle.std.specs.List.{position}
 use Rattle.wire.specs.Octets.{is_same}
 use Rattle.wire.proofs.OctetsLemmas.{is_same-true}
@@ -12,7 +13,7 @@ use Rattle.echo_window.specs.Index.{FindsFrom, IsAllAt, IsIndexed, IsLatest, ali
 use Rattle.echo_window.specs.Laid.{laid}
 use Rattle.echo_window.specs.declared.kept.Kept.{Kept}
 use Rattle.echo_window.proofs.Firsts.{first_at, first_nowhere}
-use Rattle.echo_window.proofs.Indexing.{alike-at, before-at, bucket-at, buckets-length, place-at}
+use Rattle.echo_window.proofs.Indexing.{buckets-length}
 use Rattle.echo_window.proofs.Laying.{laid-length, laid-place}
 
 -- ---- the first from an index on
@@ -87,7 +88,7 @@ own-place w m c same = ap (λ p. (not (nat_eq p m.place) && (is_soon w m c && is
 pub none-between : (gone end b number w : ℕ) (m : Record) (came : List Arrival) → b ≡ bucket_of m.frame → end ≤ length came → IsLatest gone (buckets came) end b number
     → (k : ℕ) → number - gone ≤ k → k < end → is_echo_of w m (get_or came k (first_met m)) ≡ false
 none-between gone end b number w m came is few h k l s =
-    other-bucket w m (get_or came k (first_met m)) (λ same. h.none k s (omega (arith, l)) (bucket-at came k (first_met m) (omega (arith, s, few)) ∙ same ∙ sym is))
+    other-bucket w m (get_or came k (first_met m)) (λ same. h.none k s (omega (arith, l)) (get_or-map (λ (c : Arrival). bucket_of c.frame) came k (first_met m) 0 (omega (arith, s, few)) ∙ same ∙ sym is))
 
 -- ---- one step along a bucket
 
@@ -114,7 +115,7 @@ goes-on gone passed ks row latest b w m number i k q found found' h is some at h
     let n : length (laid ks row) ≡ length ks = laid-length ks row in
     let l : i < length (laid ks row) = omega (arith, at, some, old.few) in
     let own : get_or (buckets (laid ks row)) i 0 ≡ b = ap (λ x. get_or (buckets (laid ks row)) x 0) at ∙ old.own some in
-    let next : get_or (befores ks) i 0 ≡ k.before = before-at ks i k (omega (arith, l, n)) ∙ ap (λ (x : Kept). x.before) (sym here) in
+    let next : get_or (befores ks) i 0 ≡ k.before = get_or-map (λ (x : Kept). x.before) ks i k 0 (omega (arith, l, n)) ∙ ap (λ (x : Kept). x.before) (sym here) in
     let link = subst (λ x. IsLatest gone (buckets (laid ks row)) i b x) next (subst (λ x. IsLatest gone (buckets (laid ks row)) i x (get_or (befores ks) i 0)) own (h.linked.before i (omega (arith, l, n, buckets-length ks row)))) in
     let from : number - gone ≡ i + 1 = omega (arith, at, some) in
     let more = finds-more (is_echo_of w m) (laid ks row) (first_met m) i (k.before - gone) q found asked l (omega (arith, link.few)) (λ x y z. none-between gone i b k.before w m (laid ks row) is (omega (arith, l)) link x y z)
@@ -129,7 +130,7 @@ pub goes-down : (gone passed : ℕ) (ks : List Kept) (row latest : List ℕ) (nu
 goes-down gone passed ks row latest number i k h some few at here =
     let n : length (laid ks row) ≡ length ks = laid-length ks row in
     let l : i < length ks = omega (arith, at, some, few, n) in
-    let next : get_or (befores ks) i 0 ≡ k.before = before-at ks i k l ∙ ap (λ (x : Kept). x.before) (sym here) in
+    let next : get_or (befores ks) i 0 ≡ k.before = get_or-map (λ (x : Kept). x.before) ks i k 0 l ∙ ap (λ (x : Kept). x.before) (sym here) in
     let link = h.linked.before i (omega (arith, l, buckets-length ks row)) in
     omega (arith, link.few, next, at, some)
 
@@ -153,10 +154,10 @@ found-all gone passed ks row latest b w m number i k found h is some at here sai
     own = ap (λ x. get_or (buckets (laid ks row)) x 0) at ∙ old.own some
 
     place_i : get_or (places ks) i 0 ≡ m.place
-    place_i = place-at ks i k l_i ∙ ap (λ (x : Kept). x.place) (sym here) ∙ eqb-true k.place m.place parts.1
+    place_i = get_or-map (λ (x : Kept). x.place) ks i k 0 l_i ∙ ap (λ (x : Kept). x.place) (sym here) ∙ eqb-true k.place m.place parts.1
 
     flag : get_or (alikes ks) i false ≡ true
-    flag = alike-at ks i k l_i ∙ ap (λ (x : Kept). x.alike) (sym here) ∙ parts.0
+    flag = get_or-map (λ (x : Kept). x.alike) ks i k false l_i ∙ ap (λ (x : Kept). x.alike) (sym here) ∙ parts.0
 
     at_place : (x : ℕ) → x ≤ i → get_or (places ks) x 0 ≡ m.place → is_echo_of w m (get_or (laid ks row) x (first_met m)) ≡ false
     at_place x le p = own-place w m (get_or (laid ks row) x (first_met m)) (sym (laid-place ks row x (first_met m) (omega (arith, le, l_i))) ∙ p)
@@ -165,7 +166,7 @@ found-all gone passed ks row latest b w m number i k found h is some at here sai
         → is_echo_of w m (get_or (laid ks row) x (first_met m)) ≡ false
     none x le (inl same) bucket = at_place x le (ap (λ y. get_or (places ks) y 0) same.1 ∙ place_i)
     none x le (inr away) (inl bucket) = at_place x le (h.alike i x (omega (arith, l_i, buckets-length ks row)) (omega (arith, le, away.1)) flag (bucket.1 ∙ sym own) ∙ place_i)
-    none x le (inr away) (inr other) = other-bucket w m (get_or (laid ks row) x (first_met m)) (λ same. other.1 (bucket-at (laid ks row) x (first_met m) (omega (arith, le, l_i, n)) ∙ same ∙ sym is))
+    none x le (inr away) (inr other) = other-bucket w m (get_or (laid ks row) x (first_met m)) (λ same. other.1 (get_or-map (λ (c : Arrival). bucket_of c.frame) (laid ks row) x (first_met m) 0 (omega (arith, le, l_i, n)) ∙ same ∙ sym is))
 
 -- all frames with a bucket came in at a place, where the latest of them says so
 pub all-at : (gone passed : ℕ) (ks : List Kept) (row latest : List ℕ) (b place number i : ℕ) (k : Kept) → IsIndexed gone passed ks row latest → b < length latest → number ≡ get_or latest b 0
@@ -185,10 +186,10 @@ all-at gone passed ks row latest b place number i k h few told some at here said
     own = ap (λ y. get_or (buckets (laid ks row)) y 0) at ∙ last.own some
 
     place_i : get_or (places ks) i 0 ≡ place
-    place_i = place-at ks i k l_i ∙ ap (λ (y : Kept). y.place) (sym here) ∙ eqb-true k.place place parts.1
+    place_i = get_or-map (λ (x : Kept). x.place) ks i k 0 l_i ∙ ap (λ (y : Kept). y.place) (sym here) ∙ eqb-true k.place place parts.1
 
     flag : get_or (alikes ks) i false ≡ true
-    flag = alike-at ks i k l_i ∙ ap (λ (y : Kept). y.alike) (sym here) ∙ parts.0
+    flag = get_or-map (λ (x : Kept). x.alike) ks i k false l_i ∙ ap (λ (y : Kept). y.alike) (sym here) ∙ parts.0
 
     further : (p : Bool) → nat_lt x i ≡ p → x ≢ i → get_or (places ks) x 0 ≡ place
     further true z away = h.alike i x (omega (arith, l_i, buckets-length ks row)) (ltb-true x i z) flag (q ∙ sym own) ∙ place_i

@@ -6,27 +6,28 @@
 --     crowded_out  what is forgotten of them for want of room
 --     echo_of      where the frame came in that a record is an echo of
 --     after        the frames that came in, once a record was met
---     entered      the same, once one that is known to have come in did
---     echoes       where the frames came in that records in a row are echoes of
+--     entered      the same, once one came in
 --     behind_met, behind_entered   what a window knows then
 use Rattle.std.specs.Prelude.{ℕ, ◌+◌, ◌-◌, ◌^◌, min, nat_eq, nat_lt, nat_le, ◌&&◌, not, if◌then◌else◌, Bool, false, true, List, []}
-use Rattle.std.specs.Prelude.{◌∷◌, ◌++◌, get_or, length, Option, Some, None, option_map, replicate, set, slice_index_or}
+use Rattle.std.specs.Prelude.{◌∷◌, ◌++◌, get_or, length, Option, Some, None, option_map, set, slice_index_or}
 use Rattle.std.specs.List.{find, flat_map, position}
 use Rattle.echo_window.specs.declared.forgotten.Forgotten.{Forgotten}
 use Rattle.wire.specs.Octets.{is_same}
 
--- a record of a capture: the place where it was captured, its moment in nanoseconds, and the octets of its frame without tag
+-- a record of a capture: the place where it was captured, its moment in nanoseconds, the octets of its frame without tag, and by
+-- the numbers of 256 places whether it may be met again there, if it came in
 pub record Record : Type 0 where
   pub place : ℕ
   pub moment : ℕ
   pub frame : List ℕ
+  pub awaited : List Bool
 
--- a frame that came in, which is a record that is no echo; and by the numbers of 256 places whether it was met again there
+-- a frame that came in; and by the numbers of 256 places whether it may still be met again there
 pub record Arrival : Type 0 where
   pub place : ℕ
   pub moment : ℕ
   pub frame : List ℕ
-  pub echoed : List Bool
+  pub awaited : List Bool
 
 -- a record is of another place than a frame that came in
 abbrev pub is_elsewhere : Record → Arrival → Bool
@@ -36,9 +37,9 @@ is_elsewhere r c = not (nat_eq c.place r.place)
 abbrev pub is_soon : ℕ → Record → Arrival → Bool
 is_soon within r c = nat_le c.moment r.moment && nat_le r.moment (c.moment + within)
 
--- the frame wasn't met again at that place yet
+-- the frame may be met at that place, and wasn't yet
 abbrev pub is_awaited : Record → Arrival → Bool
-is_awaited r c = not (get_or c.echoed r.place false)
+is_awaited r c = get_or c.awaited r.place false
 
 -- a record is an echo of a frame that came in: at another place, soon after, for the first time there, and octet for octet
 abbrev pub is_echo_of : ℕ → Record → Arrival → Bool
@@ -67,13 +68,13 @@ abbrev pub crowded_out : ℕ → List Arrival → List ℕ
 crowded_out moment [] = []
 crowded_out moment (c ∷ came) = if fits (c ∷ came) then [] else (moment - c.moment) ∷ crowded_out moment came
 
--- a record that is no echo is a frame that came in, met nowhere else yet
+-- a frame that came in, met nowhere else yet
 abbrev pub first_met : Record → Arrival
-first_met r = record { place = r.place; moment = r.moment; frame = r.frame; echoed = replicate 256 false }
+first_met r = record { place = r.place; moment = r.moment; frame = r.frame; awaited = r.awaited }
 
 -- a frame, met again at a place
 abbrev pub met_at : ℕ → Arrival → Arrival
-met_at place c = record { place = c.place; moment = c.moment; frame = c.frame; echoed = set c.echoed place true }
+met_at place c = record { place = c.place; moment = c.moment; frame = c.frame; awaited = set c.awaited place false }
 
 -- frames, of which the one at an index was met again at the place of a record
 abbrev pub met_again : Record → List Arrival → ℕ → List Arrival
@@ -83,31 +84,21 @@ met_again r came i = set came i (met_at r.place (slice_index_or came i (first_me
 abbrev pub echo_of : ℕ → List Arrival → Record → Option ℕ
 echo_of within came r = option_map (λ c. c.place) (find (is_echo_of within r) came)
 
--- what is kept of recent frames once a record was met: an echo's place with its frame; what is no echo as the latest frame
+-- what is kept of recent frames once a record was met: an echo's place with its frame
 abbrev pub with_met : ℕ → List Arrival → Record → List Arrival
-with_met within came r = elim (position (is_echo_of within r) came)
-    [ Some i ↦ met_again r came i | None ↦ newest (came ++ first_met r ∷ []) ]
+with_met within came r = elim (position (is_echo_of within r) came) [ Some i ↦ met_again r came i | None ↦ came ]
 
 -- what is kept of all frames: those in front that came in too early for an echo at the record's moment are forgotten
 abbrev pub after : ℕ → List Arrival → Record → List Arrival
 after within came r = with_met within (recent within r.moment came) r
 
--- what is kept of all frames once a record was met that is known to be no echo
+-- what is kept of all frames once one came in
 abbrev pub entered : ℕ → List Arrival → Record → List Arrival
 entered within came r = newest (recent within r.moment came ++ first_met r ∷ [])
 
 -- the ages of the recent frames that go for want of room when a record comes in: an echo of each might still come
 abbrev pub crowded_by : List Arrival → Record → List ℕ
 crowded_by came r = crowded_out r.moment (came ++ first_met r ∷ [])
-
--- the same when any record is met: for an echo none goes
-abbrev pub lost : ℕ → List Arrival → Record → List ℕ
-lost within came r = elim (position (is_echo_of within r) came) [ Some i ↦ [] | None ↦ crowded_by came r ]
-
--- for each of some records in a row, where the frame came in that it is an echo of
-abbrev pub echoes : ℕ → List Arrival → List Record → List (Option ℕ)
-echoes within came [] = []
-echoes within came (r ∷ rs) = echo_of within came r ∷ echoes within (after within came r) rs
 
 -- the lesser of two numbers, of which the first may not be there
 abbrev pub lesser : Option ℕ → ℕ → ℕ
@@ -136,13 +127,9 @@ new_window within = record { within = within; came = []; forgotten = record { co
 
 -- once a record was met
 abbrev pub behind_met : Window → Record → Window
-behind_met w r = record {
-  within = w.within;
-  came = after w.within w.came r;
-  forgotten = with_ages w.forgotten (lost w.within (recent w.within r.moment w.came) r);
-}
+behind_met w r = record w { came = after w.within w.came r }
 
--- once one was met that is known to be no echo
+-- once a frame came in
 abbrev pub behind_entered : Window → Record → Window
 behind_entered w r = record {
   within = w.within;

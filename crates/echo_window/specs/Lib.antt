@@ -3,4 +3,3 @@ pub mod Echo
 pub mod Index
 pub mod Laid
 pub mod Places
-pub mod Ring

@@ -6,6 +6,7 @@ ghost use Rattle.echo_window.specs.Laid.{came_of, told};
 
 use crate::place_set::PlaceSet;
 use crate::record::{Record, length_of};
+use octet_row::is_same;
 
 /// A frame that came in, but for its octets, which stand elsewhere.
 #[derive(Drop)]
@@ -22,22 +23,21 @@ pub(crate) struct Kept {
     pub(crate) before: u64,
     /// Whether all frames before it in its bucket came in where it did, as far as that is known.
     pub(crate) alike: bool,
-    /// Where it was met again.
-    pub(crate) echoed: PlaceSet,
+    /// Where it may still be met again.
+    pub(crate) awaited: PlaceSet,
 }
 
 impl Kept {
-    /// Whether a record is an echo of the frame, whose octets these are, in two parts. Most frames are of another length, which
-    /// is seen first.
+    /// Whether a record is an echo of the frame, whose octets these are. Most frames are of another length, which is seen first.
     #[inline(always)]
     #[tactic(auto, using(crate::proofs::Texts::never_same))]
-    pub(crate) fn is_met_by(&self, begun: &[u8], ended: &[u8], within: u64, met: &Record) -> bool
-        ensures { result ≡ is_echo_of within (told met.now) (came_of self.now (begun.now ++ ended.now)) }
+    pub(crate) fn is_met_by(&self, octets: &[u8], within: u64, met: &Record) -> bool
+        ensures { result ≡ is_echo_of within (told met.now) (came_of self.now octets.now) }
     {
-        if begun.len() + ended.len() != length_of(met) {
+        if octets.len() != length_of(met) {
             return false;
         }
-        self.awaits(within, met) && are_same(begun, ended, met.addresses, met.rest)
+        self.awaits(within, met) && is_joined(octets, met.addresses, met.rest)
     }
 
     /// Whether it came in more than so many nanoseconds before a moment.
@@ -71,47 +71,22 @@ impl Kept {
         self.moment <= met.moment && met.moment - self.moment <= within
     }
 
-    /// Whether the frame wasn't met again at a record's place yet.
+    /// Whether the frame may be met at a record's place, and wasn't yet.
     fn is_awaited(&self, met: &Record) -> bool
         ensures { result ≡ is_awaited (told met.now) (came_of self.now []) }
     {
-        !self.echoed.has(met.place)
+        self.awaited.has(met.place)
     }
-}
-
-/// Whether two texts, one behind the other, are two others. Mostly the second is empty.
-#[inline(always)]
-#[tactic(auto, using(crate::proofs::Texts::none_behind))]
-fn are_same(begun: &[u8], ended: &[u8], front: &[u8], rest: &[u8]) -> bool
-    ensures { result ≡ is_same (begun.now ++ ended.now) (front.now ++ rest.now) }
-{
-    if ended.is_empty() {
-        return is_same(begun, front, rest);
-    }
-    are_same_apart(begun, ended, front, rest)
-}
-
-/// The same, wherever the texts end.
-#[tactic(auto, using(crate::proofs::Texts::same_beyond, crate::proofs::Texts::same_within))]
-fn are_same_apart(begun: &[u8], ended: &[u8], front: &[u8], rest: &[u8]) -> bool
-    ensures { result ≡ is_same (begun.now ++ ended.now) (front.now ++ rest.now) }
-{
-    if begun.len() <= front.len() {
-        let (begin, end) = front.split_at(begun.len());
-        return begun == begin && is_same(ended, end, rest);
-    }
-    let (begin, end) = begun.split_at(front.len());
-    begin == front && is_same(rest, end, ended)
 }
 
 /// Whether a text is two others, one behind the other.
 #[tactic(auto, using(crate::proofs::Texts::same_parts, crate::proofs::Texts::too_short))]
-fn is_same(text: &[u8], front: &[u8], rest: &[u8]) -> bool
+fn is_joined(text: &[u8], front: &[u8], rest: &[u8]) -> bool
     ensures { result ≡ is_same text.now (front.now ++ rest.now) }
 {
     if text.len() < front.len() {
         return false;
     }
     let (begin, end) = text.split_at(front.len());
-    begin == front && end == rest
+    is_same(begin, front) && is_same(end, rest)
 }

@@ -10,8 +10,8 @@ const WORDS: usize = 4;
 const PLACES: u8 = 64;
 
 /// A set of places, seen by contracts as the list of 256 flags: by the number of a place whether it is in the set.
-#[derive(Drop)]
-pub(crate) struct PlaceSet {
+#[derive(Debug, Drop)]
+pub struct PlaceSet {
     /// A bit for each place, the lowest of the first word for place 0.
     words: [u64; WORDS],
 }
@@ -28,10 +28,18 @@ impl Model for PlaceSet {
 impl PlaceSet {
     /// The set of no place.
     #[inline(always)]
-    pub(crate) fn new() -> PlaceSet
+    pub fn new() -> PlaceSet
         ensures { result ≡ replicate 256 false }
     {
         PlaceSet { words: [0; WORDS] }
+    }
+
+    /// The same set.
+    #[inline(always)]
+    pub(crate) fn copied(&self) -> PlaceSet
+        ensures { result ≡ self.now }
+    {
+        PlaceSet { words: self.words }
     }
 
     /// Whether a place is in it.
@@ -44,10 +52,18 @@ impl PlaceSet {
 
     /// Puts a place into it, which may be in it already.
     #[inline(always)]
-    pub(crate) fn add(&mut self, place: u8)
+    pub fn add(&mut self, place: u8)
         ensures { self.new ≡ set self.old place true }
     {
         self.words[word_of(place)] |= 1 << bit_of(place);
+    }
+
+    /// Takes a place out of it, which may not be in it.
+    #[inline(always)]
+    pub fn remove(&mut self, place: u8)
+        ensures { self.new ≡ set self.old place false }
+    {
+        self.words[word_of(place)] &= !(1 << bit_of(place));
     }
 }
 

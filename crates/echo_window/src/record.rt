@@ -2,6 +2,8 @@
 ghost use Rattle.std.specs.Prelude.{◌≡◌, length};
 ghost use Rattle.echo_window.specs.Laid.{told};
 
+use crate::place_set::PlaceSet;
+
 /// What a record of a capture tells of a frame.
 #[derive(Clone, Copy, Debug)]
 pub struct Record<'a> {
@@ -13,6 +15,8 @@ pub struct Record<'a> {
     pub addresses: &'a [u8],
     /// The frame's octets behind that.
     pub rest: &'a [u8],
+    /// Where it may be met again, if it came in.
+    pub awaited: &'a PlaceSet,
 }
 
 /// How many octets the frame of a record has.

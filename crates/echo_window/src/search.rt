@@ -9,14 +9,15 @@ ghost use Rattle.echo_window.specs.Laid.{laid, lengths, told};
 use crate::index::Index;
 use crate::kept::Kept;
 use crate::record::Record;
-use crate::row::Row;
+use crate::window::MOST_OCTETS;
+use octet_row::Row;
 use std::collections::VecDeque;
 
 /// Which of some frames, whose octets stand in a row, a record is an echo of: of those with the bucket of its frame, from the
 /// latest to the earliest, up to one that came in at the record's place, as all before it did: those can't be sent there.
 pub(crate) fn find_linked(
     frames: &VecDeque<Kept>,
-    row: &Row,
+    row: &Row<MOST_OCTETS>,
     index: &Index,
     bucket: usize,
     within: u64,
@@ -46,7 +47,7 @@ pub(crate) fn find_linked(
 /// Whether all frames with a bucket are known to have come in at a place.
 pub(crate) fn is_alike(
     frames: &VecDeque<Kept>,
-    row: &Row,
+    row: &Row<MOST_OCTETS>,
     index: &Index,
     bucket: usize,
     place: u8,
@@ -79,7 +80,7 @@ fn if_echo(is_echo: bool, i: usize, found: Option<usize>) -> Option<usize>
 /// looked for.
 fn is_echo_at(
     frames: &VecDeque<Kept>,
-    row: &Row,
+    row: &Row<MOST_OCTETS>,
     index: &Index,
     i: usize,
     within: u64,
@@ -95,20 +96,25 @@ fn is_echo_at(
         return false;
     }
     let begin = (kept.at - index.passed) as usize;
-    let (begun, ended) = row.part(begin, kept.length);
-    kept.is_met_by(begun, ended, within, met)
+    let octets = row.part(begin, kept.length);
+    kept.is_met_by(octets, within, met)
 }
 
 /// The same, of all frames from the earliest on.
-pub(crate) fn find(frames: &VecDeque<Kept>, row: &Row, within: u64, met: &Record) -> Option<usize>
+pub(crate) fn find(
+    frames: &VecDeque<Kept>,
+    row: &Row<MOST_OCTETS>,
+    within: u64,
+    met: &Record,
+) -> Option<usize>
     requires { lengths frames.now.items ≡ length row.now }
     ensures { result ≡ position (is_echo_of within (told met.now)) (laid frames.now.items row.now) }
 {
     let mut begin = 0;
     for i in 0..frames.len() {
         let kept = &frames[i];
-        let (begun, ended) = row.part(begin, kept.length);
-        if kept.is_met_by(begun, ended, within, met) {
+        let octets = row.part(begin, kept.length);
+        if kept.is_met_by(octets, within, met) {
             return Some(i);
         }
         begin += kept.length;

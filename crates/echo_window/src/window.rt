@@ -1,7 +1,7 @@
 //! The latest frames that came in.
 ghost use Rattle.std.specs.Prelude.{◌≡◌, ◌≤◌, ◌<◌, ◌+◌, ◌-◌, ◌&&◌, [], ◌∷◌, ◌++◌, IfOk, drop, length, nat_eq, nat_le, slice_index_or, true};
 ghost use Rattle.std.specs.List.{position};
-ghost use Rattle.echo_window.specs.Echo.{behind_entered, behind_met, crowded_by, echo_of, first_met, fits, is_echo_of, lost};
+ghost use Rattle.echo_window.specs.Echo.{behind_entered, behind_met, crowded_by, echo_of, first_met, fits, is_echo_of};
 ghost use Rattle.echo_window.specs.Echo.{met_again, new_window, newest, recent, with_age, with_ages, with_met};
 ghost use Rattle.echo_window.specs.Bucket.{bucket_of};
 ghost use Rattle.echo_window.specs.Laid.{begins_past, told};
@@ -10,10 +10,9 @@ use crate::bucket::bucket_of;
 use crate::forgotten::Forgotten;
 use crate::index::Index;
 use crate::kept::Kept;
-use crate::place_set::PlaceSet;
 use crate::record::{Record, length_of};
-use crate::row::{MOST_OCTETS, Row};
 use crate::search::{find, find_linked, is_alike};
+use octet_row::Row;
 use std::alloc::{AllocError, Global};
 use std::collections::VecDeque;
 use std::marker::Model;
@@ -21,8 +20,14 @@ use std::marker::Model;
 /// How many frames a window keeps at most.
 const MOST_FRAMES: usize = 4_096;
 
-/// The latest frames that came in, at most 4,096 of them and 4 MiB of octets, the places where each was met again, and what was
-/// forgotten for want of room. Only [`Window::new`] takes memory.
+/// How many octets they have at most.
+pub(crate) const MOST_OCTETS: usize = 4_194_304;
+
+/// For how many there is room: as many may be forgotten before those that are kept move to the front.
+const ROOM: usize = 2 * MOST_OCTETS;
+
+/// The latest frames that came in, at most 4,096 of them and 4 MiB of octets, the places where each may still be met again, and
+/// what was forgotten for want of room. Only [`Window::new`] takes memory.
 #[derive(Drop)]
 pub struct Window {
     /// How many nanoseconds later an echo may be.
@@ -30,7 +35,7 @@ pub struct Window {
     /// The earliest first.
     frames: VecDeque<Kept>,
     /// Their octets, in the same order.
-    row: Row,
+    row: Row<MOST_OCTETS>,
     index: Index,
     forgotten: Forgotten,
 }
@@ -57,13 +62,13 @@ impl Window {
         Ok(Window {
             within,
             frames: VecDeque::with_capacity(alloc, MOST_FRAMES)?,
-            row: Row::new(alloc)?,
+            row: Row::new(alloc, ROOM, MOST_OCTETS)?,
             index: Index::new(alloc)?,
             forgotten: Forgotten::nothing(),
         })
     }
 
-    /// Takes the next record, and forgets what came in too early for an echo at its moment. Where it is an echo: the place where
+    /// Meets the next record, and forgets what came in too early for an echo at its moment. Where it is an echo: the place where
     /// its frame came in.
     pub fn meet(&mut self, met: &Record) -> Option<u8>
         ensures answer { result ≡ echo_of self.old.within self.old.came (told met.now) }
@@ -73,7 +78,7 @@ impl Window {
         self.meet_recent(met)
     }
 
-    /// Takes the next record as a frame that came in, whatever it may be an echo of, and forgets as [`Window::meet`] does.
+    /// Keeps the next record as a frame that came in, whatever it may be an echo of, and forgets as [`Window::meet`] does.
     pub fn enter(&mut self, met: &Record)
         ensures { self.new ≡ behind_entered self.old (told met.now) }
     {
@@ -95,22 +100,15 @@ impl Window {
         self.forgotten
     }
 
-    /// Takes the next record, where all frames that it may be an echo of are recent. Where it is an echo: the place where its
+    /// Meets the next record, where all frames that it may be an echo of are recent. Where it is an echo: the place where its
     /// frame came in.
     fn meet_recent(&mut self, met: &Record) -> Option<u8>
         ensures answer { result ≡ echo_of self.old.within self.old.came (told met.now) }
-        ensures behind { self.new ≡ record self.old {
-          came = with_met self.old.within self.old.came (told met.now);
-          forgotten = with_ages self.old.forgotten (lost self.old.within self.old.came (told met.now));
-        } }
+        ensures behind { self.new ≡ record self.old { came = with_met self.old.within self.old.came (told met.now) } }
     {
-        let bucket = bucket_of(met);
-        match self.search(met, bucket) {
+        match self.search(met, bucket_of(met)) {
             Some(i) => Some(self.mark(i, met)),
-            None => {
-                self.keep(met, bucket);
-                None
-            }
+            None => None,
         }
     }
 
@@ -157,7 +155,7 @@ impl Window {
         ensures came { self.new ≡ record self.old { came = met_again (told met.now) self.old.came i } }
     {
         let kept = &mut self.frames[i];
-        kept.echoed.add(met.place);
+        kept.awaited.remove(met.place);
         kept.place
     }
 
@@ -249,7 +247,7 @@ impl Window {
             length: length_of(met),
             alike: is_alike(&self.frames, &self.row, &self.index, bucket, met.place),
             before: self.index.enter(bucket, self.frames.len()),
-            echoed: PlaceSet::new(),
+            awaited: met.awaited.copied(),
         };
         self.row.put(met.addresses, met.rest);
         self.frames.push_back_reserved(kept);

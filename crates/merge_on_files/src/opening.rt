@@ -3,7 +3,7 @@ use crate::looking::{output_at, read_failure};
 use crate::merging::failure_of;
 use line_stream::Lines;
 use octet_sums::fletcher::OctetSum;
-use part_merge::{Capture, MergeFault, Part, PartFault, RecordsFault};
+use part_merge::{MergeFault, Part, PartCapture, PartFault, RecordsFault};
 use part_record::{OutputFacts, ToldOutputs};
 use pcap::stream::{Source, SourceFault};
 use program_faults::{Failure, OutputFile};
@@ -81,7 +81,7 @@ fn open_ports<'a, R: Files + AllocGlobal>(
     folder: &'a str,
     told: &[OutputFacts],
     count: usize,
-) -> Result<Vec<Capture<PartInput<R::File>>>, Failure<'a>> {
+) -> Result<Vec<PartCapture<PartInput<R::File>>>, Failure<'a>> {
     let mut ports = Vec::new(rt.alloc());
     for port in 0..count {
         let capture = match open_capture(rt, folder, told, tap_of(port), port.saturating_add(2)) {
@@ -126,7 +126,7 @@ fn open_capture<'a, R: Files + AllocGlobal>(
     told: &[OutputFacts],
     tap: Tap,
     index: usize,
-) -> Result<Capture<PartInput<R::File>>, Failure<'a>> {
+) -> Result<PartCapture<PartInput<R::File>>, Failure<'a>> {
     let input = match open_output(rt, folder, output_at(index), sum_told(told, index)) {
         Ok(input) => input,
         Err(failure) => return Err(failure),
@@ -135,7 +135,7 @@ fn open_capture<'a, R: Files + AllocGlobal>(
         Ok(source) => source,
         Err(error) => return Err(Failure::from(error)),
     };
-    match Capture::open(source) {
+    match PartCapture::open(source) {
         Ok(capture) => Ok(capture),
         Err((SourceFault::Read, _)) => Err(read_failure(rt, folder, told)),
         Err((fault, _)) => Err(Failure::in_part(

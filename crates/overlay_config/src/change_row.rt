@@ -12,7 +12,7 @@ use crate::document::read_document;
 use crate::kind::{KINDS, Kind};
 use crate::tunnel::{GROUP, TUNNELS, VniNumber, read_tunnel};
 use config_text::{
-    AnyAddr, AnyMac, Key, Reader, Row, SettingsFault, Truth, U8Range, U32Range, U64Range,
+    AnyAddr, AnyMac, Key, ListRow, Reader, SettingsFault, Truth, U8Range, U32Range, U64Range,
     VidNumber, Words, read_rows,
 };
 use overlay::ports::Egress;
@@ -201,7 +201,7 @@ fn moment_before(earlier: &[TimedChange]) -> u64
 #[derive(Clone, Copy)]
 struct ChangeRow;
 
-impl Row for ChangeRow {
+impl ListRow for ChangeRow {
     type Out = TimedChange;
 
     ghost means = { λ _. change_of };

@@ -1,7 +1,7 @@
 //! The table of a port.
 ghost use Rattle.overlay_config.specs.Port.{port_of};
 
-use config_text::{Reader, Row, SettingsFault, Truth, VidNumber, Words};
+use config_text::{ListRow, Reader, SettingsFault, Truth, VidNumber, Words};
 use overlay::ports::{Accept, PortRule};
 
 const ACCEPTS: [(&str, Accept); 3] = [
@@ -16,7 +16,7 @@ const KEYS: [&str; 3] = ["pvid", "accept", "up"];
 #[derive(Clone, Copy)]
 pub(crate) struct PortRow;
 
-impl Row for PortRow {
+impl ListRow for PortRow {
     type Out = PortRule;
 
     ghost means = { λ _ _. port_of };

@@ -6,7 +6,7 @@ use crate::flood::room_for;
 use crate::local_rules::{LocalRules, read_local};
 use crate::tunnel::{TunnelRules, read_flood, read_tunnel, read_tunnels};
 use crate::version::Version;
-use config_text::{Key, Reader, Row, SettingsFault, VidNumber};
+use config_text::{Key, ListRow, Reader, SettingsFault, VidNumber};
 use overlay::flood::{Own, Room};
 use overlay::settings::SegmentRule;
 use overlay::underlay::Limits;
@@ -86,7 +86,7 @@ impl SegmentRow {
     }
 }
 
-impl Row for SegmentRow {
+impl ListRow for SegmentRow {
     type Out = SegmentRule;
 
     ghost means = { λ r. segment_of r.version r.own r.limits r.ports };

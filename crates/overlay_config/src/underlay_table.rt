@@ -12,7 +12,7 @@ ghost use Rattle.overlay_config.specs.Underlay.{own_addrs_of, partial_of, tunnel
 use crate::known::KnownOptions;
 use crate::version::Version;
 use config_text::{
-    EndpointAddr, IndividualMac, OwnIp4, OwnIp6, Reader, Row, SettingsFault, Truth, U8Range,
+    EndpointAddr, IndividualMac, ListRow, OwnIp4, OwnIp6, Reader, SettingsFault, Truth, U8Range,
     U16Range, read_rows,
 };
 use overlay::underlay::{Hops, Limits, Underlay};
@@ -156,7 +156,7 @@ fn has_hop(hops: &[(Addr, Mac)], addr: Addr) -> bool
 #[derive(Clone, Copy)]
 struct HopRow;
 
-impl Row for HopRow {
+impl ListRow for HopRow {
     type Out = (Addr, Mac);
 
     ghost means = { λ _. hop_of };

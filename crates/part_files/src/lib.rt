@@ -11,14 +11,14 @@
 //! for octet, unless a read or a write fails. It asks that captures are octets and that there are fewer than 2^64 events. That
 //! a file holds what was written to it isn't proved, nor that the program hands its files on so.
 //!
-//! Proved of parts and what a merge makes of their files, over the clauses of `stream_run::run`, `Capture::open`,
+//! Proved of parts and what a merge makes of their files, over the clauses of `stream_run::run`, `PartCapture::open`,
 //! `Part::open` and `merge_streams`:
 //! - Each capture that such a run leaves has a header, so that it is opened unless a read fails; and with these
 //!   captures and its lines the part is opened unless a read of its lines failed, where the same two things are asked:
 //!   `laws::opened`.
 //!
 //! Why it is so: the law stands above `stream_run`, which makes parts, and `part_merge`, which puts them together, and goes
-//! over the clauses of `stream_run::run`, `Capture::open`, `Part::open` and `merge_streams`.
+//! over the clauses of `stream_run::run`, `PartCapture::open`, `Part::open` and `merge_streams`.
 #![tactic(auto)]
 
 pub mod laws;

@@ -24,11 +24,11 @@ pub(crate) enum Stop {
 
 /// A capture of a part, whose header was read. Contracts see it as its source.
 #[derive(Drop)]
-pub struct Capture<R: Input> {
+pub struct PartCapture<R: Input> {
     source: Source<R>,
 }
 
-impl<R: Input> Model for Capture<R> {
+impl<R: Input> Model for PartCapture<R> {
     ghost use Rattle.std.specs.Prelude.{◌≢◌};
     ghost use Rattle.pcap.specs.Source.{New, Stream};
 
@@ -39,17 +39,17 @@ impl<R: Input> Model for Capture<R> {
     ghost invariant = { λ c. c.source.standing ≢ New };
 }
 
-impl<R: Input> Capture<R> {
+impl<R: Input> PartCapture<R> {
     /// Reads the header of a capture of which nothing was read yet. A capture that a run wrote is opened, unless a read
     /// fails, or one more is needed than may be made. A source that isn't opened is handed back, as it stands then.
-    pub fn open(source: Source<R>) -> Result<Capture<R>, (SourceFault, Source<R>)>
+    pub fn open(source: Source<R>) -> Result<PartCapture<R>, (SourceFault, Source<R>)>
         requires { source.standing ≡ New }
         ensures opened { (text : List ℕ) → source.supply.rest ≡ Some (written_header ++ text) → Opens text result }
         ensures reads { OpenReads source result }
     {
         let mut source = source;
         match source.open() {
-            Ok(()) => Ok(Capture { source }),
+            Ok(()) => Ok(PartCapture { source }),
             Err(fault) => Err((fault, source)),
         }
     }

@@ -3,7 +3,7 @@
 //! Use first: a run can be cut into parts, each of which decides the events of some segments and writes their decision lines
 //! and records alone. [`merge_streams`] makes of the parts' outputs those of the whole run: decision lines in order of event
 //! numbers, and of each capture the records in the order that the lines tell. A [`Part`] lends the lines of a part one by one
-//! and holds its [`Capture`]s; a record is copied as it stands there, and nothing is decided again.
+//! and holds its [`PartCapture`]s; a record is copied as it stands there, and nothing is decided again.
 //!
 //! Specs to read, in order: `specs/Merged`, `specs/Whole`, `specs/Numbers`, `specs/Coming`, `specs/Left`, `specs/Blame`,
 //! `specs/Waiting`; the others serve the contracts of its parts.
@@ -14,7 +14,7 @@
 //! A device is blamed only where it failed. Where reads of parts may wait, no output holds anything back where one fails, and so
 //! while one waits. That any other fault of a part comes only where the part is wrong in this way isn't proved.
 //!
-//! Proved of a merge (`merge_streams`, `Part::open`, `Capture::open`):
+//! Proved of a merge (`merge_streams`, `Part::open`, `PartCapture::open`):
 //! - Whatever the parts hold: at `Ok` no line of theirs is left, and the lines that were written are those of events
 //!   numbered 1, 2 and so on, each number once, and behind them those of cut captures: `merge_streams`.
 //! - Whatever they hold, a device is blamed only where it failed. Where `merge_streams` blames a read of a part, the
@@ -22,7 +22,7 @@
 //!   left, unless it had before.
 //! - Where it blames a write, that output failed once, or took nothing, unless its sink had given up before.
 //! - Where `Part::open` blames a read of its part, the input of its lines failed once, and it never blames a write;
-//!   where `Capture::open` does, its input failed once or no reads are left.
+//!   where `PartCapture::open` does, its input failed once or no reads are left.
 //! - At every other answer no input and no output failed.
 //! - Where a merge stops at a failed read of a part, and reads may wait (`may_wait` of `merge_streams`), no output
 //!   holds anything back (`waits`, by `IsOutAtRead`), whatever the parts hold: before each read of a capture or of
@@ -49,7 +49,7 @@ mod merge;
 mod part;
 mod records;
 
-pub use capture::Capture;
+pub use capture::PartCapture;
 pub use fault::{MergeFault, PartFault, RecordsFault, Target};
 pub use merge::merge_streams;
 pub use part::Part;

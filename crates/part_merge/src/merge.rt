@@ -18,7 +18,7 @@ use crate::first::find_first;
 use crate::hand_on::{hand_on_before, hand_on_captures_before};
 use crate::part::Part;
 use pcap::stream::{Input, Output, Sink};
-use timeline::{Outputs, Tap};
+use timeline::{RunOutputs, Tap};
 
 /// How many octets the lines of a run's cut captures have at most: 256 lines of 30.
 const MOST_OF_CUTS: usize = 7_680;
@@ -44,7 +44,7 @@ const MOST_OF_CUTS: usize = 7_680;
 /// its records, nor that the last events are missing, nor that a part is of another run.
 pub fn merge_streams<R: Input, W: Output>(
     parts: &mut [Part<R>],
-    outputs: &mut Outputs<W>,
+    outputs: &mut RunOutputs<W>,
     may_wait: bool,
 ) -> Result<(), MergeFault>
     requires few { length outputs.old.ports ≤ 255 }
@@ -59,7 +59,7 @@ pub fn merge_streams<R: Input, W: Output>(
         outputs.new.underlay outputs.new.decisions.failures result }
     ensures waits { IsOutAtRead may_wait outputs.new.ports outputs.new.underlay outputs.new.decisions.held result }
 {
-    let Outputs {
+    let RunOutputs {
         ports,
         underlay,
         decisions,

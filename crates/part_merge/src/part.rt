@@ -18,7 +18,7 @@ ghost use Rattle.part_merge.specs.Told.{IsPlaced};
 ghost use Rattle.part_merge.specs.Waiting.{AreOutAtRead, IsOutAtRead};
 ghost use Rattle.part_merge.specs.declared.coming.Coming.TheVariants.{Nothing};
 
-use crate::capture::Capture;
+use crate::capture::PartCapture;
 use crate::coming::{Coming, Told, coming_of, is_cut, is_over, stopped_by};
 use crate::fault::{MergeFault, PartFault, Target};
 use crate::hand_on::{hand_on_captures_before, hand_on_lines_before};
@@ -77,8 +77,8 @@ impl<R: Input> Part<R> {
     pub fn open(
         part: usize,
         lines: Lines<R>,
-        ports: Vec<Capture<R>>,
-        underlay: Capture<R>,
+        ports: Vec<PartCapture<R>>,
+        underlay: PartCapture<R>,
     ) -> Result<Part<R>, (MergeFault, Lines<R>)>
     where
         R: Drop,

@@ -11,7 +11,7 @@ ghost use Rattle.part_merge.specs.Moved.{AreRecords, Moves, taps};
 ghost use Rattle.part_merge.specs.Merged.{at_tap, records_at};
 ghost use Rattle.part_merge.specs.Waiting.{IsOutAtRead, TakesRead};
 
-use crate::capture::{Capture, Stop};
+use crate::capture::{PartCapture, Stop};
 use crate::fault::{MergeFault, PartFault, Target};
 use crate::hand_on::hand_on_before;
 use part_lines::Places;
@@ -22,8 +22,8 @@ use timeline::Tap;
 #[derive(Drop)]
 pub(crate) struct Captures<R: Input> {
     /// Those of the ports, that of port 1 first.
-    pub ports: Vec<Capture<R>>,
-    pub underlay: Capture<R>,
+    pub ports: Vec<PartCapture<R>>,
+    pub underlay: PartCapture<R>,
 }
 
 /// Why a merge stops where a record of a capture of a part isn't copied.
@@ -41,7 +41,7 @@ pub(crate) fn stopped_at(part: usize, tap: Tap, stop: Stop) -> MergeFault
 fn copy_record<R: Input, W: Output>(
     part: usize,
     tap: Tap,
-    capture: &mut Capture<R>,
+    capture: &mut PartCapture<R>,
     sink: &mut Sink<W>,
 ) -> Result<(), MergeFault>
     ensures copied { (text rest : List ℕ) → IsWritten text → IsLeft (text ++ rest) capture.old
@@ -60,7 +60,7 @@ fn copy_record<R: Input, W: Output>(
 fn copy_port<R: Input, W: Output>(
     part: usize,
     port: u8,
-    ports: &mut [Capture<R>],
+    ports: &mut [PartCapture<R>],
     port_sinks: &mut [Sink<W>],
 ) -> Result<(), MergeFault>
     requires { length port_sinks.old ≡ length ports.old }
@@ -90,8 +90,8 @@ fn copy_port<R: Input, W: Output>(
 fn copy_at<R: Input, W: Output>(
     part: usize,
     tap: Tap,
-    ports: &mut [Capture<R>],
-    underlay: &mut Capture<R>,
+    ports: &mut [PartCapture<R>],
+    underlay: &mut PartCapture<R>,
     port_sinks: &mut [Sink<W>],
     underlay_sink: &mut Sink<W>,
 ) -> Result<(), MergeFault>
@@ -112,7 +112,7 @@ fn copy_at<R: Input, W: Output>(
 }
 
 /// Whether to copy the next record of the capture of a port takes a read. Where there is no capture of this number it takes none.
-fn port_takes_read<R: Input>(port: u8, ports: &[Capture<R>]) -> bool
+fn port_takes_read<R: Input>(port: u8, ports: &[PartCapture<R>]) -> bool
     ensures unless { (underlay : Stream) → result ≡ false → TakesRead ports.now underlay (Port port) → ⊥ }
     ensures only { (underlay : Stream) → result ≡ true → TakesRead ports.now underlay (Port port) }
 {
@@ -127,8 +127,8 @@ fn port_takes_read<R: Input>(port: u8, ports: &[Capture<R>]) -> bool
 fn may_wait_for<R: Input>(
     may_wait: bool,
     tap: Tap,
-    ports: &[Capture<R>],
-    underlay: &Capture<R>,
+    ports: &[PartCapture<R>],
+    underlay: &PartCapture<R>,
 ) -> bool
     ensures unless { result ≡ false → may_wait ≡ true → TakesRead ports.now underlay.now tap → ⊥ }
     ensures only { result ≡ true → (may_wait ≡ true) × TakesRead ports.now underlay.now tap }
@@ -225,8 +225,8 @@ pub(crate) fn copy_all<R: Input, W: Output>(
 /// Sees that nothing is left in the captures of a part.
 pub(crate) fn end_captures<R: Input>(
     part: usize,
-    ports: &mut [Capture<R>],
-    underlay: &mut Capture<R>,
+    ports: &mut [PartCapture<R>],
+    underlay: &mut PartCapture<R>,
 ) -> Result<(), MergeFault>
     requires { length ports.old ≤ 255 }
     ensures ended { AreLeft (λ t. []) ports.old underlay.old → UnlessDevice result (Unit {0}) }

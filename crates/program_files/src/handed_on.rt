@@ -17,7 +17,7 @@ use pcap::stream::Sink;
 use program_faults::{Failure, OutputFile};
 use std::alloc::{AllocError, Global};
 use std::io::Write;
-use timeline::Outputs;
+use timeline::RunOutputs;
 
 /// What a run or a merge wrote: no block holds anything back.
 #[derive(Drop)]
@@ -74,7 +74,7 @@ impl<F: Write + Drop> OutputFiles<F> {
         ensures in_files { IfOk result (λ files. AreHeld F.contents (handed_on files.ports.items files.underlay files.decisions)) }
     {
         let OutputFiles { files, part_file } = self;
-        let Outputs {
+        let RunOutputs {
             ports,
             underlay,
             decisions,

@@ -19,7 +19,7 @@ use std::fs::{self, OpenFile, OpenOptions};
 use std::io::{self, Write};
 use std::path::{Path, PathBuf};
 use std::rt::Files;
-use timeline::Outputs;
+use timeline::RunOutputs;
 
 /// How many octets of a capture are written at once.
 const BLOCK: usize = 65_536;
@@ -60,7 +60,7 @@ pub struct PartRecordFile<F: Drop> {
 /// was made from.
 #[derive(Drop)]
 pub struct OutputFiles<F: Write + Drop> {
-    pub files: Outputs<Written<F>>,
+    pub files: RunOutputs<Written<F>>,
     /// The file in which a part is to say what it was made from.
     pub part_file: Option<F>,
 }
@@ -231,7 +231,7 @@ impl<F: Write + OpenFile + Drop> Opened<F> {
             is_part,
         ) {
             Ok(decisions) => {
-                let files = Outputs {
+                let files = RunOutputs {
                     ports,
                     underlay,
                     decisions,

@@ -9,4 +9,3 @@ pub mod Showing
 pub mod Sound
 pub mod Summary
 pub mod Telling
-pub mod Texts

@@ -53,14 +53,11 @@ one-is at ks row held i k e v h lt here =
     sym (ap (λ (l : List Sent). get_or l i e) v) ∙ laid-at at ks row i k e h lt ∙ ap (λ (x : Kept). sent_of x (take x.length (drop (x.at - at) row))) (sym here)
 
 -- what is asked of it
-pub asked-is : (w want : ℕ) (m : Record) (at : ℕ) (ks : List Kept) (row : List ℕ) (held : List Sent) (i : ℕ) (k : Kept) (e : Sent) (begin : ℕ) (read : List ℕ) → w ≡ want → laid ks row ≡ held → IsLaid at ks row
-    → i < length ks → k ≡ get_or ks i k → read ≡ row → begin ≡ k.at - at
-    → is_met_by w m (sent_of k (take ((begin + k.length) - begin) (drop begin read))) ≡ is_met_by want m (get_or held i e)
-asked-is w want m at ks row held i k e begin read in_time v h lt here is begins =
-    let n : (begin + k.length) - begin ≡ k.length = omega arith in
+pub asked-is : (w want : ℕ) (m : Record) (at : ℕ) (ks : List Kept) (row : List ℕ) (held : List Sent) (i : ℕ) (k : Kept) (e : Sent) (begin : ℕ) (octets : List ℕ) → w ≡ want → laid ks row ≡ held → IsLaid at ks row
+    → i < length ks → k ≡ get_or ks i k → begin ≡ k.at - at → octets ≡ take k.length (drop begin row) → is_met_by w m (sent_of k octets) ≡ is_met_by want m (get_or held i e)
+asked-is w want m at ks row held i k e begin octets in_time v h lt here begins are =
     let one = one-is at ks row held i k e v h lt here in
-    ap (λ (x : ℕ). is_met_by w m (sent_of k (take x (drop begin read)))) n
-    ∙ ap (λ (r : List ℕ). is_met_by w m (sent_of k (take k.length (drop begin r)))) is
+    ap (λ (l : List ℕ). is_met_by w m (sent_of k l)) are
     ∙ ap (λ (x : ℕ). is_met_by w m (sent_of k (take k.length (drop x row)))) begins
     ∙ ap (λ (x : ℕ). is_met_by x m (sent_of k (take k.length (drop (k.at - at) row)))) in_time
     ∙ sym (ap (λ (s : Sent). is_met_by want m s) one)

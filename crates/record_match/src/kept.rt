@@ -3,8 +3,8 @@ ghost use Rattle.std.specs.Prelude.{◌≡◌, ◌<◌, ◌≤◌, ◌+◌, nat_
 ghost use Rattle.record_match.specs.Kept.{behind, ends_with, ends_without, sent_of, told};
 ghost use Rattle.record_match.specs.Match.{is_met_by, is_within};
 
-use crate::same::is_same;
 use crate::seen::Seen;
+use octet_row::is_same;
 
 /// A record that was sent, but for its octets, which stand elsewhere.
 #[derive(Clone, Copy)]

@@ -43,8 +43,6 @@ mod cut;
 mod kept;
 pub mod laws;
 mod onlooker;
-mod row;
-mod same;
 mod seen;
 pub mod tables;
 mod window;

@@ -12,14 +12,23 @@ ghost use Rattle.record_match.specs.Window.{is_first_over, sent_to, taken_at, wi
 use crate::bucket::{BUCKETS, bucket_of};
 use crate::kept::{Ends, Kept, behind};
 use crate::onlooker::Onlooker;
-use crate::row::{MOST_OCTETS, Row};
 use crate::seen::Seen;
+use octet_row::Row;
 use std::alloc::{AllocError, Global};
 use std::collections::VecDeque;
 use std::marker::Model;
 
 /// How many records a window holds at most.
 const MOST_RECORDS: usize = 1_048_576;
+
+/// How many octets it holds at most.
+const MOST_OCTETS: usize = 268_435_456;
+
+/// For how many there is room: as many may be forgotten before those that are held move to the front.
+const ROOM: usize = 2 * MOST_OCTETS;
+
+/// How many octets are forgotten at least before that.
+const LEAST_MOVED: usize = 1_048_576;
 
 /// How many records, and how many octets, may be sent in all: so their numbers fit.
 const MOST_IN_ALL: u64 = 4_611_686_018_427_387_904;
@@ -36,7 +45,7 @@ pub struct Window {
     /// The earliest first.
     kept: VecDeque<Kept>,
     /// Their octets, in the same order.
-    row: Row,
+    row: Row<MOST_OCTETS>,
     /// The first and the last record of each bucket.
     ends: Vec<Ends>,
 }
@@ -70,7 +79,7 @@ impl Window {
             gone: 0,
             passed: 0,
             kept: VecDeque::with_capacity(alloc, MOST_RECORDS)?,
-            row: Row::new(alloc)?,
+            row: Row::new(alloc, ROOM, LEAST_MOVED)?,
             ends: no_ends(alloc, bucket_count())?,
         })
     }
@@ -190,7 +199,7 @@ impl Window {
         ensures { result ≡ has_room self.now more }
     {
         let records = self.kept.len();
-        let octets = self.row.held().len();
+        let octets = self.row.count();
         if has_space(records, octets, more) {
             return is_counted(
                 self.gone + records as u64,
@@ -213,14 +222,14 @@ impl Window {
         self.ends[bucket as usize] = ends.with(self.gone, number);
         let kept = Kept {
             moment: sent.moment,
-            at: self.passed + self.row.held().len() as u64,
+            at: self.passed + self.row.count() as u64,
             next: 0,
             length: sent.octets.len() as u32,
             missing: sent.missing,
             bucket,
             is_taken: false,
         };
-        self.row.put(sent.octets);
+        self.row.put(&[], sent.octets);
         // There is room: nothing is taken.
         let _ = self.kept.push_back(kept);
     }
@@ -250,8 +259,8 @@ impl Window {
     {
         let kept = &self.kept[i];
         let begin = (kept.at - self.passed) as usize;
-        let end = begin + kept.length as usize;
-        kept.is_met_by(&self.row.held()[begin..end], self.within, received)
+        let octets = self.row.part(begin, kept.length as usize);
+        kept.is_met_by(octets, self.within, received)
     }
 
     /// Notes that a record was received, and says when it was sent.

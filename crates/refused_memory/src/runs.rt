@@ -13,7 +13,9 @@ use pcap::stream::{DeviceFault, Output, Sink, Source, StdInput, WriteFault};
 use segment_set::SegmentSet;
 use std::alloc::{AllocError, Global};
 use std::test::Fail;
-use stream_run::{Captures, Job, Outputs, ReadTexts, StreamFault, TakesAll, Unwatched, read_texts};
+use stream_run::{
+    Captures, Job, ReadTexts, RunOutputs, StreamFault, TakesAll, Unwatched, read_texts,
+};
 use test_inputs::memory::request;
 
 /// Runs the built-in sample.
@@ -115,7 +117,7 @@ fn told(end: Result<(), StreamFault>, lines: usize, packets: usize) -> Answer {
 fn run_over<'a>(
     alloc: Global,
     captures: &mut Captures<Octets<'a>>,
-    outputs: &mut Outputs<Counted>,
+    outputs: &mut RunOutputs<Counted>,
 ) -> Result<(), StreamFault>
     requires sinks { length outputs.old.ports ≡ length captures.old.ports.items }
     requires ports { All IsUnread captures.old.ports.items }
@@ -142,7 +144,7 @@ fn run_over<'a>(
 fn streamed_over<'a>(
     alloc: Global,
     captures: Captures<Octets<'a>>,
-    outputs: Outputs<Counted>,
+    outputs: RunOutputs<Counted>,
 ) -> Answer
     requires sinks { length outputs.ports ≡ length captures.ports.items }
     requires ports { All IsUnread captures.ports.items }
@@ -165,7 +167,7 @@ pub(crate) fn streamed(alloc: Global, count: u16) -> Result<Answer, Fail> {
         underlay: source(alloc, inputs::cut())?,
         may_wait: false,
     };
-    let outputs = Outputs {
+    let outputs = RunOutputs {
         ports: one(alloc, sink())?,
         underlay: sink(),
         decisions: Counted { octets: 0 },

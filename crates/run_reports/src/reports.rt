@@ -217,6 +217,8 @@ impl<'n, 'a> Reports<'n, 'a> {
     }
 
     /// Tells the tables at their moment, where they weren't told yet.
+    #[cold]
+    #[inline(never)]
     fn tell_due(&mut self, endpoint: &Endpoint) -> Result<(), AllocError>
         ensures { OnOk result (self.new ≡ due_told self.old (state_of endpoint.now)) }
     {
@@ -259,6 +261,8 @@ fn put_tables(
 }
 
 /// Puts why an event comes out as it does.
+#[cold]
+#[inline(never)]
 fn put_story(
     alloc: Global,
     text: &mut Vec<u8>,

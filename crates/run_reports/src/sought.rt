@@ -217,6 +217,21 @@ fn meet_reasons(
     if !is_any_open(reasons) {
         return false;
     }
+    meet_open(reasons, endpoint, event, places)
+}
+
+/// The same, whatever came before. It's called and not laid in, so that runs which seek nothing don't pay for its room.
+#[cold]
+#[inline(never)]
+fn meet_open(
+    reasons: &mut [SoughtReason],
+    endpoint: &Endpoint,
+    event: &Event,
+    places: &mut Outlets,
+) -> bool
+    ensures first { result ≡ list_any (is_new_reason (foreseen (state_of endpoint.now) event.now)) reasons.old }
+    ensures met { reasons.new ≡ map (reason_met (foreseen (state_of endpoint.now) event.now)) reasons.old }
+{
     match foreseen(endpoint, event, places) {
         Some(forwarding) => {
             let mut causes = [false; 256];
@@ -257,6 +272,16 @@ fn meet_addresses(addresses: &mut [SoughtAddress], endpoint: &Endpoint, event: &
     if !is_any_away(addresses) {
         return false;
     }
+    meet_away(addresses, endpoint, event)
+}
+
+/// The same, whatever came before; called and not laid in, as [`meet_open`] is.
+#[cold]
+#[inline(never)]
+fn meet_away(addresses: &mut [SoughtAddress], endpoint: &Endpoint, event: &Event) -> bool
+    ensures first { result ≡ list_any (is_new_address (passing_of (state_of endpoint.now) event.now.happening)) addresses.old }
+    ensures met { addresses.new ≡ map (address_met (passing_of (state_of endpoint.now) event.now.happening)) addresses.old }
+{
     match passing_of(endpoint, event) {
         Some(passing) => mark_addresses(addresses, &passing),
         None => false,

@@ -10,7 +10,7 @@ use capture_run::RunFault;
 use pcap::stream::{Sink, StdOutput};
 use std::alloc::{AllocError, Global};
 use std::io::{self, Read};
-use stream_run::{Job, Outputs, Sieve, StreamFault, Watch, run};
+use stream_run::{Job, RunOutputs, Sieve, StreamFault, Watch, run};
 
 /// An output that takes everything and keeps nothing.
 type Unwritten = StdOutput<io::Sink>;
@@ -32,7 +32,7 @@ pub(crate) fn run_into_nothing<'a, F: Read + Drop, I: Read + Drop, S: Sieve, T: 
     let Ok(ports) = unwritten_sinks(alloc, captures.ports.len()) else {
         return Err(StreamFault::Run(RunFault::OutOfMemory));
     };
-    let mut outputs = Outputs {
+    let mut outputs = RunOutputs {
         ports,
         underlay: Sink::new(unwritten()),
         decisions: unwritten(),

@@ -9,7 +9,7 @@ use pcap::stream::{BlockOutput, Sink, Source};
 use pcapng_input::{CaptureInput, Selection};
 use segment_set::SegmentSet;
 use std::alloc::{AllocError, Global};
-use stream_run::{Captures, Job, Outputs, ReadTexts, TakesAll, Unwatched, read_texts, run};
+use stream_run::{Captures, Job, ReadTexts, RunOutputs, TakesAll, Unwatched, read_texts, run};
 use test_inputs::{Pieces, in_pieces};
 
 /// How many octets are read, and written, at once: as many as a pipe holds.
@@ -90,7 +90,7 @@ pub fn written(
         underlay: open(alloc, text_of(tapes, ports))?,
         may_wait,
     };
-    let mut outputs = Outputs {
+    let mut outputs = RunOutputs {
         ports: digest_sinks(alloc, ports)?,
         underlay: Sink::new(BlockOutput::new(alloc, DigestOutput::new(), BLOCK)?),
         decisions: BlockOutput::new(alloc, DigestOutput::new(), BLOCK)?,

@@ -22,10 +22,10 @@ use crate::turn::{Turn, Upcoming};
 use overlay_config::TimedChange;
 use pcap::stream::{Input, Output};
 use std::alloc::{AllocError, Global};
-use timeline::Outputs;
+use timeline::RunOutputs;
 
 /// Writes the header of the capture of the port with this index, from 0.
-fn begin_port<W: Output>(outputs: &mut Outputs<W>, index: usize) -> Result<(), Target>
+fn begin_port<W: Output>(outputs: &mut RunOutputs<W>, index: usize) -> Result<(), Target>
     requires there { index < length outputs.old.ports }
     requires few { index < 255 }
     ensures begun { (start : Drains) (o : Texts) → StandAt start outputs.old o
@@ -40,7 +40,7 @@ fn begin_port<W: Output>(outputs: &mut Outputs<W>, index: usize) -> Result<(), T
 }
 
 /// Writes the header of the underlay's capture.
-fn begin_underlay<W: Output>(outputs: &mut Outputs<W>) -> Result<(), Target>
+fn begin_underlay<W: Output>(outputs: &mut RunOutputs<W>) -> Result<(), Target>
     ensures { (start : Drains) (o : Texts) → StandAt start outputs.old o
         → Lead start outputs.new o (record o { underlay = o.underlay ++ written_header }) result }
 {
@@ -51,7 +51,7 @@ fn begin_underlay<W: Output>(outputs: &mut Outputs<W>) -> Result<(), Target>
 }
 
 /// Writes the headers of the ports' captures, rising, and then that of the underlay's.
-fn put_headers<W: Output>(outputs: &mut Outputs<W>) -> Result<(), Target>
+fn put_headers<W: Output>(outputs: &mut RunOutputs<W>) -> Result<(), Target>
     requires { length outputs.old.ports ≤ 255 }
     ensures { (start : Drains) → StandAt start outputs.old (no_texts (length outputs.old.ports))
         → Lead start outputs.new (no_texts (length outputs.old.ports)) (empty_outputs (length outputs.old.ports)) result }
@@ -65,7 +65,7 @@ fn put_headers<W: Output>(outputs: &mut Outputs<W>) -> Result<(), Target>
 }
 
 /// The same, and hands them on where the reads behind may wait.
-pub fn begin_all<W: Output>(outputs: &mut Outputs<W>, may_wait: bool) -> Result<(), Target>
+pub fn begin_all<W: Output>(outputs: &mut RunOutputs<W>, may_wait: bool) -> Result<(), Target>
     requires { length outputs.old.ports ≤ 255 }
     ensures begun { (start : Drains) → StandAt start outputs.old (no_texts (length outputs.old.ports))
         → Lead start outputs.new (no_texts (length outputs.old.ports)) (empty_outputs (length outputs.old.ports)) result }
@@ -103,7 +103,7 @@ pub fn first_turns(
 pub fn fetch_all<R: Input, W: Output>(
     changes: &[TimedChange],
     captures: &mut Captures<R>,
-    outputs: &Outputs<W>,
+    outputs: &RunOutputs<W>,
     turns: &mut [Turn],
 ) -> Result<(), StreamFault>
     requires few { length captures.old.ports.items ≤ 255 }

@@ -14,7 +14,7 @@ use crate::turn::Turn;
 use decision_lines::Line;
 use pcap::stream::{Input, Output, Source};
 use segment_set::SegmentSet;
-use timeline::{Cut, Outputs, Tap};
+use timeline::{Cut, RunOutputs, Tap};
 
 /// Puts the line of a capture, if it is cut behind so many whole records.
 fn put_cut<R: Input, W: Output>(
@@ -22,7 +22,7 @@ fn put_cut<R: Input, W: Output>(
     tap: Tap,
     whole: u64,
     line: &mut Line,
-    outputs: &mut Outputs<W>,
+    outputs: &mut RunOutputs<W>,
 ) -> Result<(), Target>
     ensures { (start : Drains) (o : Texts) → StandAt start outputs.old o
         → Lead start outputs.new o (with_cuts o (option_to_list (cut_behind tap source.now whole))) result }
@@ -39,7 +39,7 @@ fn put_cuts<R: Input, W: Output>(
     captures: &Captures<R>,
     turns: &[Turn],
     line: &mut Line,
-    outputs: &mut Outputs<W>,
+    outputs: &mut RunOutputs<W>,
 ) -> Result<(), Target>
     requires few { length captures.now.ports.items ≤ 255 }
     requires turns { length turns.now ≡ length captures.now.ports.items + 2 }
@@ -72,7 +72,7 @@ pub fn put_cuts_among<R: Input, W: Output>(
     captures: &Captures<R>,
     turns: &[Turn],
     line: &mut Line,
-    outputs: &mut Outputs<W>,
+    outputs: &mut RunOutputs<W>,
 ) -> Result<(), Target>
     requires few { length captures.now.ports.items ≤ 255 }
     requires turns { length turns.now ≡ length captures.now.ports.items + 2 }

@@ -10,7 +10,7 @@ use crate::captures::Captures;
 use crate::part::Next;
 use overlay_config::TimedChange;
 use pcap::stream::{Input, Output, Source, SourceFault};
-use timeline::{Outputs, Tap};
+use timeline::{RunOutputs, Tap};
 
 /// Fetches the next record of a capture, the latest of those that came at this moment, and sets when it comes, if there is one.
 /// Where it fails, what was set says nothing.
@@ -47,10 +47,11 @@ pub fn moment_of(changes: &[TimedChange], index: u64) -> Option<u64>
 /// Asks a source, of which so many events came, the latest at this moment, for what comes next, and sets when, if there is more:
 /// the changes, the ports, the underlay. The changes never fail. Where that takes a read which may wait, the outputs hold nothing
 /// back. Where a read failed, it took one.
+#[inline(always)]
 pub fn fetch_at<R: Input, W: Output>(
     changes: &[TimedChange],
     captures: &mut Captures<R>,
-    _outputs: &Outputs<W>,
+    _outputs: &RunOutputs<W>,
     next: Next,
     when: &mut Option<u64>,
 ) -> Result<(), SourceFault>

@@ -30,13 +30,13 @@ use crate::part::{Coming, Taker};
 use crate::take::take_at;
 use crate::watch::Watch;
 use pcap::stream::{Input, Output};
-use timeline::Outputs;
+use timeline::RunOutputs;
 
 /// How many ports a run has at most.
 const MOST_PORTS: usize = 255;
 
 /// Hands on what the capture of the port with this index, from 0, holds back.
-fn hand_on_port<W: Output>(outputs: &mut Outputs<W>, index: usize) -> Result<(), Target>
+fn hand_on_port<W: Output>(outputs: &mut RunOutputs<W>, index: usize) -> Result<(), Target>
     requires there { index < length outputs.old.ports }
     requires few { index < 255 }
     ensures handed { (start : Drains) (o : Texts) → StandAt start outputs.old o → Lead start outputs.new o o result }
@@ -51,7 +51,7 @@ fn hand_on_port<W: Output>(outputs: &mut Outputs<W>, index: usize) -> Result<(),
 }
 
 /// Hands on what the captures of the ports hold back.
-fn hand_on_ports<W: Output>(outputs: &mut Outputs<W>) -> Result<(), Target>
+fn hand_on_ports<W: Output>(outputs: &mut RunOutputs<W>) -> Result<(), Target>
     ensures out { OnOk result (PortsOut outputs.new.ports) }
     ensures handed { (start : Drains) (o : Texts) → StandAt start outputs.old o → Lead start outputs.new o o result }
 {
@@ -64,7 +64,7 @@ fn hand_on_ports<W: Output>(outputs: &mut Outputs<W>) -> Result<(), Target>
 }
 
 /// Hands on what the capture of the underlay holds back.
-fn hand_on_underlay<W: Output>(outputs: &mut Outputs<W>) -> Result<(), Target>
+fn hand_on_underlay<W: Output>(outputs: &mut RunOutputs<W>) -> Result<(), Target>
     ensures out { OnOk result (outputs.new.underlay.held ≡ []) }
     ensures ports { outputs.new.ports ≡ outputs.old.ports }
     ensures handed { (start : Drains) (o : Texts) → StandAt start outputs.old o → Lead start outputs.new o o result }
@@ -76,7 +76,7 @@ fn hand_on_underlay<W: Output>(outputs: &mut Outputs<W>) -> Result<(), Target>
 }
 
 /// Hands on the lines that are held back, where the captures hold nothing back.
-fn hand_on_lines<W: Output>(outputs: &mut Outputs<W>) -> Result<(), Target>
+fn hand_on_lines<W: Output>(outputs: &mut RunOutputs<W>) -> Result<(), Target>
     requires ports { PortsOut outputs.old.ports }
     requires underlay { outputs.old.underlay.held ≡ [] }
     ensures out { OnOk result (outputs.new.decisions.held ≡ []) }
@@ -91,7 +91,7 @@ fn hand_on_lines<W: Output>(outputs: &mut Outputs<W>) -> Result<(), Target>
 }
 
 /// Hands on what the outputs hold back: the captures of the ports, rising, that of the underlay, and then the lines.
-pub fn hand_on_all<W: Output>(outputs: &mut Outputs<W>) -> Result<(), Target>
+pub fn hand_on_all<W: Output>(outputs: &mut RunOutputs<W>) -> Result<(), Target>
     ensures out { OnOk result (AllOut outputs.new) }
     ensures handed { (start : Drains) (o : Texts) → StandAt start outputs.old o → Lead start outputs.new o o result }
 {
@@ -130,7 +130,7 @@ fn may_wait_behind<R: Input>(captures: &Captures<R>, index: usize, takes_all: bo
 #[inline(always)]
 fn has_to_hand_on<R: Input, W: Output>(
     captures: &Captures<R>,
-    outputs: &Outputs<W>,
+    outputs: &RunOutputs<W>,
     most_of_a_line: usize,
     index: usize,
     takes_all: bool,
@@ -150,7 +150,7 @@ fn has_to_hand_on<R: Input, W: Output>(
 pub fn take_and_hand_on<R: Input, W: Output, T: Watch>(
     coming: Coming,
     captures: &Captures<R>,
-    outputs: &mut Outputs<W>,
+    outputs: &mut RunOutputs<W>,
     taker: &mut Taker,
     takes_all: bool,
     watch: &mut T,

@@ -15,7 +15,7 @@ use crate::part::{Coming, Next, Taker};
 use crate::sieve::Sieve;
 use crate::watch::Watch;
 use pcap::stream::{Input, Output, Source};
-use timeline::{Captured, Event, Happening, Outputs, Tap};
+use timeline::{Captured, Event, Happening, RunOutputs, Tap};
 
 /// The event of the record that a source lends.
 #[inline(always)]
@@ -67,7 +67,7 @@ fn next_event<R: Input>(captures: &Captures<R>, next: Next) -> Event<'_>
 pub fn let_in<R: Input, W: Output, S: Sieve, T: Watch>(
     coming: Coming,
     captures: &Captures<R>,
-    outputs: &mut Outputs<W>,
+    outputs: &mut RunOutputs<W>,
     taker: &mut Taker,
     sieve: &mut S,
     watch: &mut T,

@@ -1,6 +1,6 @@
 //! Runs over streams: captures of any size, in the memory of one record each.
 //!
-//! Use first: [`run`] runs a [`Job`], of [`Captures`] into [`Outputs`]. It opens the captures, `pcap::stream` sources from which
+//! Use first: [`run`] runs a [`Job`], of [`Captures`] into [`RunOutputs`]. It opens the captures, `pcap::stream` sources from which
 //! nothing was read yet, and writes the headers. Then it takes the records and the changes in order of moment through an
 //! endpoint, and writes what comes of each event before it fetches the next record; the lines of cut captures come last. A job
 //! has both texts and what they mean, as [`read_texts`] answers it, and the segments to which it is told, a
@@ -129,6 +129,6 @@ pub use runs::run;
 pub use sieve::{Sieve, TakesAll};
 pub use step::put_events;
 pub use texts::{ReadTexts, read_texts};
-pub use timeline::Outputs;
+pub use timeline::RunOutputs;
 pub use turn::{Turn, Upcoming};
 pub use watch::{Unwatched, Watch};

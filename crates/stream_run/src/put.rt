@@ -25,7 +25,7 @@ use encapsulate::Head;
 use endpoint_core::{Arrival, Endpoint, Forwarding};
 use filter_db::Place;
 use pcap::stream::Output;
-use timeline::{Event, Outputs};
+use timeline::{Event, RunOutputs};
 use wire::ip_udp::{Addr, Tunnel};
 
 /// A frame that leaves: the endpoint that took it, and when.
@@ -47,7 +47,7 @@ struct Peer {
 /// number.
 #[inline(always)]
 fn put_at<W: Output>(
-    outputs: &mut Outputs<W>,
+    outputs: &mut RunOutputs<W>,
     port: u8,
     moment: u64,
     addresses: &[u8],
@@ -86,7 +86,7 @@ fn octets_of(tag: &Option<[u8; 4]>) -> &[u8]
 /// Puts a record with a head, a frame's addresses and its body into the capture of the underlay.
 #[inline(always)]
 fn put_out<W: Output>(
-    outputs: &mut Outputs<W>,
+    outputs: &mut RunOutputs<W>,
     moment: u64,
     head: &[u8],
     addresses: &[u8],
@@ -110,7 +110,7 @@ fn put_out<W: Output>(
 /// Puts what leaves of a frame at a local port, and tells it in a line.
 #[inline(always)]
 fn put_local<W: Output>(
-    outputs: &mut Outputs<W>,
+    outputs: &mut RunOutputs<W>,
     leaving: &Leaving,
     port: u8,
     is_first: bool,
@@ -154,7 +154,7 @@ fn put_local<W: Output>(
 /// Puts what leaves of a frame for a remote endpoint, if something does, and tells it in a line.
 #[inline(always)]
 fn put_remote<W: Output>(
-    outputs: &mut Outputs<W>,
+    outputs: &mut RunOutputs<W>,
     leaving: &Leaving,
     peer: Peer,
     is_first: bool,
@@ -203,7 +203,7 @@ fn put_remote<W: Output>(
 /// Puts what leaves of a frame at a place, if something does, and tells it in a line.
 #[inline(always)]
 fn put_place<W: Output>(
-    outputs: &mut Outputs<W>,
+    outputs: &mut RunOutputs<W>,
     leaving: &Leaving,
     place: &Place,
     is_first: bool,
@@ -239,7 +239,7 @@ fn put_place<W: Output>(
 
 /// Puts what leaves of a frame at each place, and tells it in a line that has been begun.
 fn put_places<W: Output>(
-    outputs: &mut Outputs<W>,
+    outputs: &mut RunOutputs<W>,
     leaving: &Leaving,
     places: &[Place],
     head: &mut Head,
@@ -275,7 +275,7 @@ fn put_places<W: Output>(
 }
 
 /// Puts a line to the decisions.
-pub fn put_line<W: Output>(outputs: &mut Outputs<W>, line: &[u8]) -> Result<(), Target>
+pub fn put_line<W: Output>(outputs: &mut RunOutputs<W>, line: &[u8]) -> Result<(), Target>
     ensures line { (start : Drains) (o : Texts) → StandAt start outputs.old o → Lead start outputs.new o (with_line o line.now) result }
     ensures captures { outputs.new ≡ record outputs.old { decisions = outputs.new.decisions } }
 {
@@ -287,7 +287,7 @@ pub fn put_line<W: Output>(outputs: &mut Outputs<W>, line: &[u8]) -> Result<(), 
 
 /// Puts what comes of a frame that leaves: its emissions in order of outlets, and then the event's line.
 fn put_forwarded<W: Output>(
-    outputs: &mut Outputs<W>,
+    outputs: &mut RunOutputs<W>,
     endpoint: &Endpoint,
     scratch: &mut Scratch,
     event: &Event,
@@ -333,7 +333,7 @@ fn put_forwarded<W: Output>(
 /// Puts what comes of a frame or a packet that the endpoint took just now: its emissions in order of outlets, and then
 /// the event's line.
 pub fn put_forwarding<W: Output>(
-    outputs: &mut Outputs<W>,
+    outputs: &mut RunOutputs<W>,
     endpoint: &Endpoint,
     scratch: &mut Scratch,
     event: &Event,

@@ -31,7 +31,7 @@ use decision_lines::{Scratch, most_of_a_line};
 use endpoint_core::Endpoint;
 use pcap::stream::{Input, Output};
 use std::alloc::Global;
-use timeline::Outputs;
+use timeline::RunOutputs;
 
 /// Runs an endpoint with the settings of a text over the captures of its local ports, port 1 first, and of its underlay,
 /// with the changes of a text at their moments. Both texts were read before; no text is read here.
@@ -61,7 +61,7 @@ pub fn run<R: Input, W: Output, S: Sieve, T: Watch>(
     alloc: Global,
     job: Job,
     captures: &mut Captures<R>,
-    outputs: &mut Outputs<W>,
+    outputs: &mut RunOutputs<W>,
     sieve: &mut S,
     watch: &mut T,
 ) -> Result<(), StreamFault>
@@ -105,7 +105,7 @@ fn run_with<R: Input, W: Output, S: Sieve, T: Watch>(
     alloc: Global,
     job: Job,
     captures: &mut Captures<R>,
-    outputs: &mut Outputs<W>,
+    outputs: &mut RunOutputs<W>,
     sieve: &mut S,
     watch: &mut T,
 ) -> Result<(), StreamFault>
@@ -150,7 +150,7 @@ fn run_on<R: Input, W: Output, S: Sieve, T: Watch>(
     part: &Part,
     captures: &mut Captures<R>,
     taker: &mut Taker,
-    outputs: &mut Outputs<W>,
+    outputs: &mut RunOutputs<W>,
     sieve: &mut S,
     watch: &mut T,
 ) -> Result<(), StreamFault>

@@ -21,7 +21,7 @@ use crate::turn::{Turn, Upcoming};
 use crate::watch::Watch;
 use capture_run::RunFault;
 use pcap::stream::{Input, Output};
-use timeline::Outputs;
+use timeline::RunOutputs;
 
 /// Puts the event that comes first through the endpoint, where the sieve takes it in, and shows it before, as passed over where
 /// it isn't told to the part's segments; and fetches the next one of its source.
@@ -29,7 +29,7 @@ fn put_first<R: Input, W: Output, S: Sieve, T: Watch>(
     coming: Coming,
     captures: &mut Captures<R>,
     taker: &mut Taker,
-    outputs: &mut Outputs<W>,
+    outputs: &mut RunOutputs<W>,
     sieve: &mut S,
     watch: &mut T,
 ) -> Result<(), Halt>
@@ -79,7 +79,7 @@ pub fn put_events<R: Input, W: Output, S: Sieve, T: Watch>(
     part: &Part,
     captures: &mut Captures<R>,
     taker: &mut Taker,
-    outputs: &mut Outputs<W>,
+    outputs: &mut RunOutputs<W>,
     sieve: &mut S,
     watch: &mut T,
 ) -> Result<(), StreamFault>

@@ -32,11 +32,11 @@ use endpoint_core::{Endpoint, Forwarding, nothing_came, segment_of};
 use overlay_config::{Change, TimedChange};
 use pcap::stream::{Input, Output, Source};
 use segment_set::SegmentSet;
-use timeline::{Captured, Event, Happening, Outputs, Tap};
+use timeline::{Captured, Event, Happening, RunOutputs, Tap};
 
 /// Shows a change, puts it to the endpoint, tells its reply, and puts what comes of it to the outputs.
 pub fn take_change<W: Output, T: Watch>(
-    outputs: &mut Outputs<W>,
+    outputs: &mut RunOutputs<W>,
     endpoint: &mut Endpoint,
     scratch: &mut Scratch,
     event: &Event,
@@ -68,7 +68,7 @@ pub fn take_change<W: Output, T: Watch>(
 /// is decided, and puts what comes of it to the outputs.
 #[inline(always)]
 fn take_came<W: Output, T: Watch>(
-    outputs: &mut Outputs<W>,
+    outputs: &mut RunOutputs<W>,
     endpoint: &mut Endpoint,
     scratch: &mut Scratch,
     event: &Event,
@@ -107,7 +107,7 @@ fn take_came<W: Output, T: Watch>(
 #[inline(always)]
 pub fn take_frame<R: Input, W: Output, T: Watch>(
     source: &Source<R>,
-    outputs: &mut Outputs<W>,
+    outputs: &mut RunOutputs<W>,
     taker: &mut Taker,
     next: Next,
     segments: &SegmentSet,
@@ -175,7 +175,7 @@ pub fn take_frame<R: Input, W: Output, T: Watch>(
 #[inline(always)]
 pub fn take_packet<R: Input, W: Output, T: Watch>(
     source: &Source<R>,
-    outputs: &mut Outputs<W>,
+    outputs: &mut RunOutputs<W>,
     taker: &mut Taker,
     next: Next,
     segments: &SegmentSet,
@@ -240,7 +240,7 @@ pub fn take_packet<R: Input, W: Output, T: Watch>(
 pub fn take_at<R: Input, W: Output, T: Watch>(
     part: &Part,
     captures: &Captures<R>,
-    outputs: &mut Outputs<W>,
+    outputs: &mut RunOutputs<W>,
     taker: &mut Taker,
     next: Next,
     watch: &mut T,
@@ -288,7 +288,7 @@ pub fn take_at<R: Input, W: Output, T: Watch>(
 /// is put to the outputs.
 fn take_change_at<W: Output, T: Watch>(
     part: &Part,
-    outputs: &mut Outputs<W>,
+    outputs: &mut RunOutputs<W>,
     taker: &mut Taker,
     next: Next,
     watch: &mut T,

@@ -1,8 +1,10 @@
 //! Captures that have both directions: what the switch itself sent is left out of them.
-use both_ways::{BothWays, WITHIN};
+use both_ways::{BothWays, WITHIN, sieve_of};
 use command_line::time_of;
 use program_faults::Failure;
 use run_counts::{Flows, RunCounts};
+use runs_on_files::Texts;
+use std::alloc::{AllocError, Global};
 use stream_run::TakesAll;
 use text_calls::tap_of;
 use timeline::Tap;
@@ -18,6 +20,16 @@ pub fn within_of<'a>(both: bool, within: Option<&'a str>) -> Result<Option<u64>,
         None if both => Ok(Some(WITHIN)),
         None => Ok(None),
     }
+}
+
+/// What leaves that out of a run with these texts, where it is asked for, and the texts are read.
+pub fn sieve_for(
+    alloc: Global,
+    texts: &Texts,
+    within: Option<u64>,
+) -> Result<Option<BothWays>, AllocError> {
+    let (settings, changes) = (texts.settings.as_slice(), texts.changes.as_slice());
+    sieve_of(alloc, settings, changes, within)
 }
 
 /// What tells how many records of a capture a run left out.

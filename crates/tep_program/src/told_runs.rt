@@ -3,12 +3,12 @@ ghost use Rattle.std.specs.Prelude.{◌≡◌, [], Ok, IfSome};
 ghost use Rattle.overlay_config.specs.Change.{IsRising, changes_in};
 ghost use Rattle.overlay.specs.Rules.{EachBehind};
 
-use crate::directions::{LeavesOut, tell_left_out};
+use crate::directions::{LeavesOut, sieve_for, tell_left_out};
 use crate::objects_file::{RunObjects, finish_objects, leave_objects, objects_of_run};
 use crate::outbound::tell_outbound;
 use crate::progress::progress_of;
 use crate::told_texts::{LookedOn, print_told, tell_all};
-use both_ways::{Nobody, sieve_of};
+use both_ways::Nobody;
 use overlay_config::TimedChange;
 use program_faults::Failure;
 use program_files::{Destination, FailedOutputs, Names};
@@ -91,7 +91,7 @@ pub fn run_and_tell<'a, R: Files + Input + AllocGlobal + Print + Eprint + Clock 
         segments: &segments,
     };
     // A fault stands on the first line of standard error, so that what was left out is told behind a run that is done alone.
-    let Some(sieve) = sieve_of(rt.alloc(), texts.settings.as_slice(), asked.within)? else {
+    let Some(sieve) = sieve_for(rt.alloc(), &texts, asked.within)? else {
         let ran = run_plain(rt, job, progress, failed)?;
         tell_outbound(rt, ran.outbound.as_slice());
         return Ok(());

@@ -3,7 +3,7 @@
 //!
 //! Use first: [`Timeline::read`] opens the captures of the local ports and of the underlay, reads their records
 //! (pcap-savefile(5)) and puts them, with the changes, in order of moment. Each [`Event`] says what happens when, and where it
-//! stands in its [`Source`]; the octets of a record stay a slice of its capture. [`Outputs`] is where a run writes what comes of
+//! stands in its [`Source`]; the octets of a record stay a slice of its capture. [`RunOutputs`] is where a run writes what comes of
 //! them, or a merge of its parts.
 //!
 //! Specs to read, in order: `specs/Inputs`, `specs/Faults`, `specs/Events`, `specs/Order`, `specs/Timeline`, `specs/Drains`.
@@ -36,6 +36,6 @@ mod timeline;
 
 pub use event::{Captured, Event, Happening};
 pub use fault::TimelineFault;
-pub use outputs::Outputs;
+pub use outputs::RunOutputs;
 pub use source::{Source, Tap};
 pub use timeline::{Cut, Timeline};

@@ -7,13 +7,13 @@ use std::marker::Model;
 /// Contracts see what was written to each and what it holds back, how often it failed, and whether its sink has given up. The
 /// output of the lines is no sink: it gives up at no time.
 #[derive(Drop)]
-pub struct Outputs<W: Output> {
+pub struct RunOutputs<W: Output> {
     pub ports: Vec<Sink<W>>,
     pub underlay: Sink<W>,
     pub decisions: W,
 }
 
-impl<W: Output> Model for Outputs<W> {
+impl<W: Output> Model for RunOutputs<W> {
     ghost use Rattle.timeline.specs.Drains.{Drains, drains};
 
     ghost Value = { Drains };

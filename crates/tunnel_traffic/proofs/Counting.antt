@@ -4,6 +4,7 @@ use Rattle.std.specs.List.{FoldsTo, flat_map}
 use Rattle.wire.proofs.FirstLemmas.{same_Ok}
 use Rattle.wire.specs.declared.ether.reason.Reason.{Reason}
 use Rattle.filter_db.specs.declared.place.Place.{Place}
+use Rattle.filter_db.specs.declared.place.Place.TheVariants.{Local}
 use Rattle.encapsulate.specs.Remote.{sizes}
 use Rattle.overlay.specs.declared.settings.change.Change.{Change}
 use Rattle.timeline.specs.declared.event.Event.{Event}
@@ -56,6 +57,14 @@ unsized_rows o r reason is sent = by o.sent (sym is ∙ sent)
     by : (s : Result (List ℕ) Reason) → Err reason ≡ sizes s → [] ≡ sent_rows o.place s
     by (Ok octets) e = absurd cc
     by (Err other) e = refl
+
+-- at a port nothing is counted, whatever is sent there
+pub local_rows : (o : Sent) (port : ℕ) → o.place ≡ Local port → [] ≡ outcome_rows o
+local_rows o port is = by o.sent ∙ sym (ap (λ (place : Place). sent_rows place o.sent) is)
+  where
+    by : (s : Result (List ℕ) Reason) → [] ≡ sent_rows (Local port) s
+    by (Ok octets) = refl
+    by (Err reason) = refl
 
 -- ---- a run
 

@@ -201,12 +201,15 @@ fn count_leaving(remotes: &mut RemoteRows, endpoint: &Endpoint, came: &Arrival, 
     }
 }
 
-/// Counts what leaves of a frame at a place, where something does.
+/// Counts what leaves of a frame at a place, where something does. It isn't measured at a port, where nothing is counted.
 fn count_sent(remotes: &mut RemoteRows, endpoint: &Endpoint, came: &Arrival, place: Place)
     requires { IsTrue (can_leave (state_of endpoint.now).bridges.settings came.now.vid place) }
     ensures { let S = (state_of endpoint.now).bridges.settings in
         remotes.new ≡ counted_all remotes.old (outcome_rows (sent_at S came.now.vid came.now.frame place)) }
 {
+    if let Place::Local(_) = place {
+        return;
+    }
     if let Ok(size) = endpoint.size_at(came, place) {
         count_at(remotes, place, Traffic::one_left(size as u64));
     }

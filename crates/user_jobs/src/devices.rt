@@ -11,7 +11,9 @@ use pcap::stream::{BlockOutput, Output, Sink, Source};
 use pcapng_input::{CaptureInput, Selection};
 use segment_set::SegmentSet;
 use std::alloc::{AllocError, Global};
-use stream_run::{Captures as RunCaptures, Job, Outputs, ReadTexts, TakesAll, Watch, read_texts};
+use stream_run::{
+    Captures as RunCaptures, Job, ReadTexts, RunOutputs, TakesAll, Watch, read_texts,
+};
 use test_inputs::{Pieces, in_pieces};
 
 /// How many octets are read, and written, at once.
@@ -105,7 +107,7 @@ pub fn run<'a, T: Watch>(
     requires new_ports { All IsUnread ports.items }
     requires new_underlay { IsUnread underlay }
 {
-    let mut outputs = Outputs {
+    let mut outputs = RunOutputs {
         ports: digest_sinks(alloc, ports.len())?,
         underlay: Sink::new(BlockOutput::new(alloc, DigestOutput::new(), BLOCK)?),
         decisions: BlockOutput::new(alloc, DigestOutput::new(), BLOCK)?,

@@ -9,7 +9,7 @@ use crate::traffic::{Captures, PORTS, Traffic, switch_settings};
 use arrayvec::ArrayVec;
 use line_stream::Lines;
 use part_lines::{LineFacts, read_line};
-use part_merge::{Capture, Part, merge_streams};
+use part_merge::{Part, PartCapture, merge_streams};
 use part_record::{
     CaptureDigest, CaptureDigests, DigestInput, MOST_PORTS, digests_of, digests_text,
 };
@@ -18,7 +18,7 @@ use pcapng_input::{CaptureInput, Selection};
 use segment_set::SegmentSet;
 use std::alloc::{AllocError, Global};
 use stream_run::{
-    Captures as RunCaptures, Job, Outputs, ReadTexts, TakesAll, Unwatched, read_texts, run,
+    Captures as RunCaptures, Job, ReadTexts, RunOutputs, TakesAll, Unwatched, read_texts, run,
 };
 use test_inputs::{Pieces, Room, in_pieces};
 
@@ -137,7 +137,7 @@ fn run_part(
         underlay: open(alloc, captures.underlay(), Selection::All)?,
         may_wait: false,
     };
-    let mut outputs = Outputs {
+    let mut outputs = RunOutputs {
         ports: kept_sinks(alloc, read.ports.len())?,
         underlay: Sink::new(kept(alloc)?),
         decisions: kept(alloc)?,
@@ -199,8 +199,8 @@ fn count_events(alloc: Global, decisions: &[u8]) -> Result<u64, JobFault> {
 }
 
 /// Opens a capture that a part wrote.
-fn open_written(alloc: Global, text: &[u8]) -> Result<Capture<Pieces<'_>>, JobFault> {
-    match Capture::open(Source::new(alloc, in_pieces(text, BLOCK, 0), READS)?) {
+fn open_written(alloc: Global, text: &[u8]) -> Result<PartCapture<Pieces<'_>>, JobFault> {
+    match PartCapture::open(Source::new(alloc, in_pieces(text, BLOCK, 0), READS)?) {
         Ok(capture) => Ok(capture),
         Err(_) => Err(JobFault::Failed(Stage::PartOpened)),
     }
@@ -237,7 +237,7 @@ fn merge(alloc: Global, digest: &mut Digest, written: &[Written]) -> Result<(), 
     if sinks.len() > 255 {
         return Err(JobFault::Failed(Stage::Merge));
     }
-    let mut outputs = Outputs {
+    let mut outputs = RunOutputs {
         ports: sinks,
         underlay: Sink::new(BlockOutput::new(alloc, DigestOutput::new(), BLOCK)?),
         decisions: BlockOutput::new(alloc, DigestOutput::new(), BLOCK)?,

@@ -13,8 +13,8 @@ overflow_sub-begin c =
     let at = placed-at c.args.index.now.passed items c.args.i c.index-kept.result.now c.requires.inside c.requires.indexed.placed in
     omega (arith, at, ap (λ (k : Kept). k.at) c.index-kept.ensures)
 
-pub part-requires : goal.part-requires
-part-requires c =
+pub part-octets-requires : goal.part-octets-requires
+part-octets-requires c =
     let items = c.args.frames.now.items in
     let at = placed-at c.args.index.now.passed items c.args.i c.index-kept.result.now c.requires.inside c.requires.indexed.placed in
     let next = lengths-next items c.args.i c.index-kept.result.now c.requires.inside in
@@ -26,7 +26,7 @@ returns c =
     let at = placed-at c.args.index.now.passed items c.args.i c.index-kept.result.now c.requires.inside c.requires.indexed.placed in
     let begins : c.index-kept.result.now.at - c.args.index.now.passed ≡ lengths (take c.args.i items) = omega (arith, at, ap (λ (k : Kept). k.at) c.index-kept.ensures) in
     c.is_met_by.ensures
-    ∙ asked-is c.args.within (told c.args.met.now) items c.args.row.now _ c.args.i (c.index-kept.result.now.at - c.args.index.now.passed) c.index-kept.result.now c.requires.inside c.index-kept.ensures begins c.part.ensures.octets
+    ∙ asked-is c.args.within (told c.args.met.now) items c.args.row.now _ c.args.i (c.index-kept.result.now.at - c.args.index.now.passed) c.index-kept.result.now c.requires.inside c.index-kept.ensures begins c.part-octets.ensures.octets
 
 pub returns-then-not-awaits : goal.returns-then-not-awaits
 returns-then-not-awaits c =

@@ -8,7 +8,7 @@ use capture_run::Outputs;
 use pcap::stream::{Sink, Source};
 use std::alloc::{AllocError, Global};
 use std::test::Fail;
-use stream_run::{Captures, Outputs as RunOutputs, StreamFault, TakesAll};
+use stream_run::{Captures, RunOutputs, StreamFault, TakesAll};
 use test_inputs::{GoingOn, Pieces, Room, going_on, in_pieces};
 
 /// An input of a run.

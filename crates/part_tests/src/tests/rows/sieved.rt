@@ -11,7 +11,7 @@ use segment_set::SegmentSet;
 use std::alloc::Global;
 use std::test::Fail;
 use stream_run::{
-    Captures, Job, Outputs as RunOutputs, ReadTexts, Sieve, StreamFault, Unwatched, read_texts, run,
+    Captures, Job, ReadTexts, RunOutputs, Sieve, StreamFault, Unwatched, read_texts, run,
 };
 use timeline::{Event, Source, Tap};
 

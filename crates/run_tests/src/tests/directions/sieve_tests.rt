@@ -1,9 +1,8 @@
 //! Records of captures that hold both directions, in order of moment.
 use both_ways::BothWays;
-use overlay::underlay::Underlay;
-use overlay_config::settings_of;
 use std::alloc::Global;
 use std::test::Fail;
+use stream_run::read_texts;
 use test_inputs::settings::ENDPOINT;
 use test_inputs::{octets_of, three_cells};
 use timeline::{Captured, Event, Happening, Tap};
@@ -21,7 +20,7 @@ the endpoint sends it into a tunnel | u | 103 | \
 and out of a port, tagged | p2 | 104 | 02000000000B02000000000A8100000588B501010101 | out
 once more there | p2 | 105 | 02000000000B02000000000A88B501010101 | in
 at a third port as late as may be, with a priority | p3 | 110 | 02000000000B02000000000A8100E00088B501010101 | out
-too late behind both | p4 | 116 | 02000000000B02000000000A88B501010101 | in
+too late behind both | p3 | 116 | 02000000000B02000000000A88B501010101 | in
 a second tag belongs to the frame | p1 | 117 | 02000000000B02000000000A810000058100000688B501010101 | in
 a frame comes out of a VXLAN tunnel | u | 120 | \
 02000000AA0102000000AA02080045000036000000004011F6B3C0000202C0000201C00012B5002200000800000000138800\
@@ -38,16 +37,21 @@ a tunnel between others | u | 130 | \
 whose frame is none of the switch's | p1 | 131 | 02000000000B02000000000A88B503030303 | in
 a ping by the endpoint | u | 132 | 02000000AA0102000000AA0208004500001C000000004001F6D6C0000201C00002090800F7FF00000000 | out
 a frame comes out of a Geneve tunnel | u | 140 | \
-02000000AA0102000000AA02080045000036000000004011F6B3C0000202C0000201C00017C1002200000000655800138800\
+02000000AA0102000000AA02080045000036000000004011F6B3C0000202C0000201C00017C1002200000000655800177000\
 02000000000B02000000000A88B504040404 | in
 and goes out as late as may be | p2 | 150 | 02000000000B02000000000A88B504040404 | out
 and later | p3 | 151 | 02000000000B02000000000A88B504040404 | in
 no packet of IP | u | 160 | 02000000000B02000000000A08060001 | in
 nor this | u | 161 | 02000000000B02000000000A08060001 | in
 a frame that is cut in its tag | p1 | 170 | 02000000000B02000000000A81000005 | in
-is compared as it stands | p2 | 171 | 02000000000B02000000000A81000005 | out
+is refused there, and so never sent | p2 | 171 | 02000000000B02000000000A81000005 | in
 and one of three octets | p1 | 172 | 010203 | in
-like any other | p2 | 173 | 010203 | out
+like any other | p2 | 173 | 010203 | in
+a frame of no segment | p1 | 180 | 02000000000B02000000000A8100001E88B505050505 | in
+nor that | p2 | 181 | 02000000000B02000000000A88B505050505 | in
+a frame in the other segment | p2 | 190 | 02000000000B02000000000A8100001488B506060606 | in
+isn't awaited where that has no port | p1 | 191 | 02000000000B02000000000A88B506060606 | in
+but at a member | p3 | 192 | 02000000000B02000000000A8100001488B506060606 | out
 "
 }
 
@@ -96,10 +100,13 @@ of version 4 there | u | 135 | 02000000AA0202000000AA0186DD40000000FFFF114020010
 "
 }
 
-/// The underlay of an endpoint at 192.0.2.1 and 2001:db8::1 with the registered ports.
-fn underlay(alloc: Global) -> Result<Underlay, Fail> {
-    let settings = settings_of(alloc, ENDPOINT.as_bytes())?;
-    Ok(settings.into_parts().underlay)
+/// Port 2 goes down.
+const PORT_2_DOWN: &str = "[[change]]\nkind = \"port_down\"\nat = 0\nport = 2\n";
+
+/// That of the endpoint with these changes.
+fn both_of(alloc: Global, changes: &str) -> Result<BothWays, Fail> {
+    let texts = read_texts(alloc, ENDPOINT.as_bytes(), changes.as_bytes())?;
+    Ok(BothWays::new(alloc, WITHIN, texts)?)
 }
 
 /// The place of this name.
@@ -125,7 +132,7 @@ fn is_taken(
         happening: Happening::Record(
             tap_of(place)?,
             Captured {
-                original: 60,
+                original: octets.len() as u32,
                 octets: octets.as_slice(),
             },
         ),
@@ -149,19 +156,18 @@ fn wrong_row<'a>(
     Ok(None)
 }
 
-/// Whether two packets of the rows were left out at the underlay, and 2, 4, 1 and no frame at the ports.
+/// Whether two packets of the rows were left out at the underlay, and two frames at each port.
 fn are_counted(both: &BothWays) -> bool {
     both.left_out(Tap::Underlay) == 2
         && both.left_out(Tap::Port(1)) == 2
-        && both.left_out(Tap::Port(2)) == 4
-        && both.left_out(Tap::Port(3)) == 1
+        && both.left_out(Tap::Port(2)) == 2
+        && both.left_out(Tap::Port(3)) == 2
         && both.left_out(Tap::Port(4)) == 0
 }
 
 #[test]
 fn what_the_switch_sent_is_no_input(rt: HostRuntime) -> Result<(), Fail> {
-    let underlay = underlay(rt.alloc())?;
-    let mut both = BothWays::new(rt.alloc(), WITHIN, &underlay)?;
+    let mut both = both_of(rt.alloc(), "")?;
     let wrong = wrong_row(rt.alloc(), &mut both, rows())?.unwrap_or("none");
     assert_eq!(rt; wrong, "none");
     assert!(rt; are_counted(&both));
@@ -170,8 +176,7 @@ fn what_the_switch_sent_is_no_input(rt: HostRuntime) -> Result<(), Fail> {
 
 #[test]
 fn at_the_underlay_the_outer_source_decides(rt: HostRuntime) -> Result<(), Fail> {
-    let underlay = underlay(rt.alloc())?;
-    let mut both = BothWays::new(rt.alloc(), WITHIN, &underlay)?;
+    let mut both = both_of(rt.alloc(), "")?;
     let wrong = wrong_row(rt.alloc(), &mut both, sender_rows())?.unwrap_or("none");
     assert_eq!(rt; wrong, "none");
     assert!(rt; both.left_out(Tap::Underlay) == 10 && both.forgotten_line().is_none());
@@ -180,13 +185,35 @@ fn at_the_underlay_the_outer_source_decides(rt: HostRuntime) -> Result<(), Fail>
 
 #[test]
 fn a_change_is_always_input(rt: HostRuntime) -> Result<(), Fail> {
-    let underlay = underlay(rt.alloc())?;
-    let mut both = BothWays::new(rt.alloc(), WITHIN, &underlay)?;
+    let mut both = both_of(rt.alloc(), "")?;
     let event = Event {
         moment: 5,
         number: 1,
         happening: Happening::Change(0),
     };
     assert!(rt; both.is_input(&event) && both.is_input(&event));
+    Ok(())
+}
+
+/// A broadcast at port 1 and at port 2: as above.
+fn flood_rows<'a>() -> &'a str {
+    "\
+a broadcast comes in | p1 | 100 | FFFFFFFFFFFF02000000000A88B501010101 | in
+and leaves | p2 | 101 | FFFFFFFFFFFF02000000000A88B501010101 | out
+"
+}
+
+#[test]
+fn a_port_that_is_down_sends_nothing(rt: HostRuntime) -> Result<(), Fail> {
+    let mut both = both_of(rt.alloc(), PORT_2_DOWN)?;
+    let up = wrong_row(rt.alloc(), &mut both, flood_rows())?;
+    let down = Event {
+        moment: 120,
+        number: 1,
+        happening: Happening::Change(0),
+    };
+    assert!(rt; up.is_none() && both.is_input(&down));
+    let wrong = wrong_row(rt.alloc(), &mut both, flood_rows())?;
+    assert_eq!(rt; wrong.unwrap_or("none"), "and leaves");
     Ok(())
 }

@@ -1,9 +1,18 @@
 //! How much a window keeps.
-use echo_window::{Forgotten, Record, Window};
+use echo_window::{Forgotten, PlaceSet, Record, Window};
 use std::alloc::Global;
 use std::test::Fail;
 
-/// Shows a window a frame that begins with a number, all at one moment.
+/// The places up to 9.
+fn nine_places() -> PlaceSet {
+    let mut places = PlaceSet::new();
+    for place in 0..10 {
+        places.add(place);
+    }
+    places
+}
+
+/// Shows a window a frame that begins with a number, all at one moment. What is no echo came in.
 fn show(window: &mut Window, place: u8, number: u32, rest: &[u8]) -> Option<u8> {
     let octets = number.to_be_bytes();
     let record = Record {
@@ -11,8 +20,13 @@ fn show(window: &mut Window, place: u8, number: u32, rest: &[u8]) -> Option<u8> 
         moment: 7,
         addresses: &octets,
         rest,
+        awaited: &nine_places(),
     };
-    window.meet(&record)
+    let met = window.meet(&record);
+    if met.is_none() {
+        window.enter(&record);
+    }
+    met
 }
 
 /// Where the first of so many frames came in, shown again at place 2 behind all others of place 1.
@@ -64,7 +78,7 @@ fn a_frame_in_which_the_room_ends_is_found(rt: HostRuntime) -> Result<(), Fail> 
     Ok(())
 }
 
-/// What a window forgot behind so many frames, a nanosecond apart. Every second one enters unasked.
+/// What a window forgot behind so many frames, a nanosecond apart.
 fn forgotten_behind(alloc: Global, within: u64, count: u32) -> Result<Forgotten, Fail> {
     let mut window = Window::new(alloc, within)?;
     for number in 0..count {
@@ -74,12 +88,9 @@ fn forgotten_behind(alloc: Global, within: u64, count: u32) -> Result<Forgotten,
             moment: u64::from(number),
             addresses: &octets,
             rest: &[],
+            awaited: &nine_places(),
         };
-        if number % 2 == 0 {
-            window.enter(&record);
-        } else {
-            let _ = window.meet(&record);
-        }
+        window.enter(&record);
     }
     Ok(window.forgotten())
 }
@@ -107,5 +118,14 @@ fn a_frame_that_fits_nowhere_is_counted(rt: HostRuntime) -> Result<(), Fail> {
     let _ = show(&mut window, 1, 0, &[]);
     assert!(rt; show(&mut window, 2, 0, rest.as_slice()).is_none());
     assert!(rt; window.forgotten() == went(2, Some(0)));
+    Ok(())
+}
+
+#[test]
+fn a_frame_is_awaited_at_its_places_alone(rt: HostRuntime) -> Result<(), Fail> {
+    let mut window = Window::new(rt.alloc(), 10)?;
+    let _ = show(&mut window, 1, 0, &[]);
+    assert!(rt; show(&mut window, 10, 0, &[]).is_none());
+    assert!(rt; show(&mut window, 9, 0, &[]) == Some(1));
     Ok(())
 }

@@ -18,24 +18,17 @@ overflow_sub-begin c =
     let b = begins c.self.inside.passed c.self.inside.kept.items c.self.inside.row c.args.i c.index-kept.result.now c.self.invariant.is_laid h in
     omega (arith, b.0, ap (λ (k : Kept). k.at) c.index-kept.ensures)
 
-pub overflow_add-end : goal.overflow_add-end
-overflow_add-end c =
+pub part-octets-requires : goal.part-octets-requires
+part-octets-requires c =
     let n = count-is _ _ _ (held-is c.self.view_is) in
     let h : c.args.i < length c.self.inside.kept.items = omega (arith, n, c.requires) in
     let b = begins c.self.inside.passed c.self.inside.kept.items c.self.inside.row c.args.i c.index-kept.result.now c.self.invariant.is_laid h in
-    omega (arith, b.0, b.1, ap (λ (k : Kept). k.at) c.index-kept.ensures, ap (λ (k : Kept). k.length) c.index-kept.ensures, c.self.invariant.small)
-
-pub slice_bounds-is_met_by-end : goal.slice_bounds-is_met_by-end
-slice_bounds-is_met_by-end c =
-    let n = count-is _ _ _ (held-is c.self.view_is) in
-    let h : c.args.i < length c.self.inside.kept.items = omega (arith, n, c.requires) in
-    let b = begins c.self.inside.passed c.self.inside.kept.items c.self.inside.row c.args.i c.index-kept.result.now c.self.invariant.is_laid h in
-    omega (arith, b.0, b.1, ap (λ (k : Kept). k.at) c.index-kept.ensures, ap (λ (k : Kept). k.length) c.index-kept.ensures, ap (λ (l : List ℕ). length l) c.held.ensures)
+    omega (arith, b.0, b.1, ap (λ (k : Kept). k.at) c.index-kept.ensures, ap (λ (k : Kept). k.length) c.index-kept.ensures)
 
 pub returns : goal.returns
 returns c =
     let v = held-is c.self.view_is in
     let h : c.args.i < length c.self.inside.kept.items = omega (arith, count-is _ _ _ v, c.requires) in
     c.is_met_by.ensures
-    ∙ asked-is _ _ (told c.args.received.now) c.self.inside.passed c.self.inside.kept.items c.self.inside.row c.args.self.now.held c.args.i c.index-kept.result.now (as_sent (told c.args.received.now)) _ c.held.result.now
-    (within-is c.self.view_is) v c.self.invariant.is_laid h c.index-kept.ensures c.held.ensures refl
+    ∙ asked-is _ _ (told c.args.received.now) c.self.inside.passed c.self.inside.kept.items c.self.inside.row c.args.self.now.held c.args.i c.index-kept.result.now (as_sent (told c.args.received.now)) _ _ (within-is c.self.view_is) v
+    c.self.invariant.is_laid h c.index-kept.ensures refl c.part-octets.ensures.octets

@@ -20,7 +20,7 @@ module _ (c : After-push_back) where
   abbrev kept : Kept
   kept = record {
     moment = c.args.sent.now.moment;
-    at = c.self.inside.passed + length c.held.result.now;
+    at = c.self.inside.passed + c.count.result;
     next = 0;
     length = length c.args.sent.now.octets.now;
     missing = c.args.sent.now.missing;
@@ -61,7 +61,7 @@ invariant_of-self c =
     let count = (links w).count in
     let more = deque_capacity c.push_back.new.self in
     let x = sound-put gone passed linked row ends (deque_capacity c.self.inside.kept) more (kept w) text number c.index-ends.result.now (links w).sound c.index-ends.ensures (omega (arith, c.len.ensures, c.self.inside.kept.ok.0, count))
-    (ap (λ (l : List ℕ). passed + length l) c.held.ensures) c.bucket_of-bucket.ensures.bucket c.bucket_of-bucket.ensures.bound refl refl (omega (arith, count, n, room.0.0)) (omega (arith, o, room.0.1))
+    (ap (λ (n : ℕ). passed + n) c.count.ensures) c.bucket_of-bucket.ensures.bucket c.bucket_of-bucket.ensures.bound refl refl (omega (arith, count, n, room.0.0)) (omega (arith, o, room.0.1))
     (omega (arith, count, records-is c.self.view_is, room.1.0)) (omega (arith, octets-is c.self.view_is, room.1.1)) (omega (arith, c.push_back.ensures.capacity, c.link.ensures.capacity)) in
     subst (λ (l : List Kept). IsSound gone passed l c.put.new.self (set ends b c.with.result) more) (sym (items w))
     (subst (λ (r : List ℕ). IsSound gone passed (linked ++ kept w ∷ []) r (set ends b c.with.result) more) (sym c.put.ensures)

@@ -1,12 +1,11 @@
 -- Events among which no frame stands at two places.
-use Rattle.std.proofs.Common.{◌≡◌, ℕ, zero, suc, ◌+◌, nat_eq, nat_le, nat_lt, ◌&&◌, not, Bool, true, false, if◌then◌else◌, List, [], ◌∷◌, ◌++◌, Option, Some, None, set, get_or, refl, sym, ap, ◌∙◌}
-use Rattle.std.specs.Prelude.{is_some, option_map, slice_index_or}
+use Rattle.std.proofs.Common.{◌≡◌, ℕ, zero, suc, ◌+◌, nat_lt, ◌&&◌, not, Bool, true, false, if◌then◌else◌, List, [], ◌∷◌, ◌++◌, Option, Some, None, set, get_or, refl, ap, ◌∙◌}
+use Rattle.std.specs.Prelude.{is_some, option_map}
 use Rattle.std.specs.List.{filter, find, position}
 use Rattle.both_ways.specs.Laws.{IsNew, LeavesWhole, NoneIsLike, StandsOnce, brought_by, is_like, is_of_others, with_one}
 use Rattle.both_ways.specs.Sieve.{Seen, asked, behind, fresh, happened, happens_in, is_taken, taken, window_asked, window_with}
-use Rattle.both_ways.specs.Told.{is_sent}
 use Rattle.both_ways.proofs.Others.{same_underlay}
-use Rattle.echo_window.specs.Echo.{Arrival, Record, Window, echo_of, first_met, fits, is_awaited, is_echo_of, is_elsewhere, is_soon, met_again, met_at, newest, recent, with_met}
+use Rattle.echo_window.specs.Echo.{Arrival, Record, Window, first_met, fits, is_awaited, is_echo_of, is_elsewhere, is_soon, met_again, met_at, newest, recent}
 use Rattle.overlay.specs.declared.underlay.settings.Underlay.{Underlay}
 use Rattle.timeline.specs.Captured.{Captured}
 use Rattle.timeline.specs.declared.event.Event.{Event}

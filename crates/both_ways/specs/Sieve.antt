@@ -3,7 +3,7 @@
 --     taken        those of some events in a row that are
 --     behind       what is known behind an event
 --     behind_all   what is known behind some events in a row: its counts tell how many records at each place aren't input
-use Rattle.std.specs.Prelude.{◌≡◌, refl, ℕ, ◌+◌, ◌-◌, ◌^◌, min, not, Bool, true, false, is_some}
+use Rattle.std.specs.Prelude.{◌≡◌, refl, ℕ, ◌+◌, ◌-◌, ◌^◌, min, not, Bool, true, is_some}
 use Rattle.std.specs.Prelude.{if◌then◌else◌, List, [], ◌∷◌, length, replicate, set, slice_get, slice_index, Option, Some, None}
 use Rattle.both_ways.specs.declared.sieve.BothWays.{BothWays}
 use Rattle.both_ways.specs.Told.{brought, is_sent, no_places, place_of, untagged}

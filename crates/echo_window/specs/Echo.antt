@@ -8,7 +8,7 @@
 --     after        the frames that came in, once a record was met
 --     entered      the same, once one came in
 --     behind_met, behind_entered   what a window knows then
-use Rattle.std.specs.Prelude.{ℕ, ◌+◌, ◌-◌, ◌^◌, min, nat_eq, nat_lt, nat_le, ◌&&◌, not, if◌then◌else◌, Bool, false, true, List, []}
+use Rattle.std.specs.Prelude.{ℕ, ◌+◌, ◌-◌, ◌^◌, min, nat_eq, nat_lt, nat_le, ◌&&◌, not, if◌then◌else◌, Bool, false, List, []}
 use Rattle.std.specs.Prelude.{◌∷◌, ◌++◌, get_or, length, Option, Some, None, option_map, set, slice_index_or}
 use Rattle.std.specs.List.{find, flat_map, position}
 use Rattle.echo_window.specs.declared.forgotten.Forgotten.{Forgotten}

@@ -132,7 +132,7 @@ fn is_taken(
         happening: Happening::Record(
             tap_of(place)?,
             Captured {
-                original: octets.len() as u32,
+                original: u32::try_from(octets.len()).unwrap_or(0),
                 octets: octets.as_slice(),
             },
         ),

@@ -1,4 +1,4 @@
-use Rattle.std.proofs.Common.{◌≡◌, ℕ, ◌+◌, List, length, sym, ap, ◌∙◌, arith}
+use Rattle.std.proofs.Common.{◌≡◌, ℕ, ◌+◌, length, sym, ap, ◌∙◌, arith}
 use Rattle.record_match.proofs.Showing.{count-is, held-is, no-room, octets-are, octets-is, records-is, room-if}
 use Rattle.record_match.proofs.window.Window.has_room.Goals as goal
 

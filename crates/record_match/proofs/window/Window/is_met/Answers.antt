@@ -1,4 +1,4 @@
-use Rattle.std.proofs.Common.{ℕ, ◌<◌, List, length, refl, ap, ◌∙◌, arith}
+use Rattle.std.proofs.Common.{◌<◌, length, refl, ap, ◌∙◌, arith}
 use Rattle.record_match.specs.Kept.{told}
 use Rattle.record_match.specs.Match.{as_sent}
 use Rattle.record_match.specs.declared.kept.Kept.{Kept}

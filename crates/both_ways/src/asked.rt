@@ -1,5 +1,6 @@
 //! The sieve that a run asks for.
 use crate::sieve::BothWays;
+use capture_run::RunFault;
 use std::alloc::{AllocError, Global};
 use stream_run::read_texts;
 
@@ -7,7 +8,7 @@ use stream_run::read_texts;
 pub const WITHIN: u64 = 10_000_000;
 
 /// What leaves that out of a run with these texts of settings and of changes. None: nothing is to be left out, or a text is
-/// refused, which the run tells.
+/// refused, which the run tells. `AllocError`: there was no memory for it, or for reading the texts.
 pub fn sieve_of(
     alloc: Global,
     settings: &[u8],
@@ -22,6 +23,7 @@ pub fn sieve_of(
             let sieve = BothWays::new(alloc, within, texts)?;
             Ok(Some(sieve))
         }
+        Err(RunFault::OutOfMemory) => Err(AllocError),
         Err(_) => Ok(None),
     }
 }

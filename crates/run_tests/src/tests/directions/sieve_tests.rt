@@ -48,7 +48,7 @@ is refused there, and so never sent | p2 | 171 | 02000000000B02000000000A8100000
 and one of three octets | p1 | 172 | 010203 | in
 like any other | p2 | 173 | 010203 | in
 a frame of no segment | p1 | 180 | 02000000000B02000000000A8100001E88B505050505 | in
-nor that | p2 | 181 | 02000000000B02000000000A88B505050505 | in
+is never sent, so its like came in | p2 | 181 | 02000000000B02000000000A88B505050505 | in
 a frame in the other segment | p2 | 190 | 02000000000B02000000000A8100001488B506060606 | in
 isn't awaited where that has no port | p1 | 191 | 02000000000B02000000000A88B506060606 | in
 but at a member | p3 | 192 | 02000000000B02000000000A8100001488B506060606 | out

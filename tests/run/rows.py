@@ -177,7 +177,7 @@ def main():
             print(f"tests/run/rows.py: {row.name}: {fault}")
             wrong += 1
     # Each row that there is has run: an empty folder would pass.
-    if count < 268:
+    if count < 274:
         print(f"tests/run/rows.py: {count} rows")
         wrong += 1
     return 1 if wrong else 0

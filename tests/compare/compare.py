@@ -46,22 +46,29 @@ def rising(records):
         yield latest, content
 
 
-def matched(sent, received, within, shift):
-    """The numbers of those that were sent and of those that were received that are both: each content alone, the first with the
-    first that is not too late."""
+def pairs(sent, received, within, shift):
+    """The numbers of those that are both, as pairs in the order in which they were received: each content alone, the first that was
+    sent with the first that is not too late."""
     least, most = (0, within) if shift is None else (shift - within, shift + within)
     queues = collections.defaultdict(collections.deque)
     for number, (moment, content) in enumerate(rising(sent)):
         queues[content].append((moment, number))
-    of_sent, of_received = set(), set()
+    found = []
     for number, (moment, content) in enumerate(rising(received)):
         queue = queues[content]
         while queue and queue[0][0] + most < moment:
             queue.popleft()
         if queue and queue[0][0] + least <= moment:
-            of_sent.add(queue.popleft()[1])
-            of_received.add(number)
-    return of_sent, of_received
+            found.append((queue.popleft()[1], number))
+    return found
+
+
+def behind_line(sent, both):
+    """The line of how many of these pairs were sent before one that was received in front of them, where one is."""
+    moments = [moment for moment, _ in rising(sent)]
+    were_sent = [moments[number] for number, _ in both]
+    count = sum(any(other > moment for other in were_sent[:at]) for at, moment in enumerate(were_sent))
+    return [f"behind another {count}"] if count else []
 
 
 def alone(side, records, both):
@@ -88,13 +95,15 @@ def end_lines(ends, fault):
 
 def report(sent, received, within, shift):
     """What is printed: the lines of those that were sent alone, of those that were received alone, the counts with how many are
-    cut, and the table by length."""
-    of_sent, of_received = matched(sent, received, within, shift)
-    both = len(of_sent)
+    cut and are behind another, and the table by length."""
+    found = pairs(sent, received, within, shift)
+    of_sent, of_received = ({pair[side] for pair in found} for side in (0, 1))
+    both = len(found)
     sent_lines, sent_lengths = alone("sent", sent, of_sent)
     received_lines, received_lengths = alone("received", received, of_received)
     counts = [f"sent {len(sent)}", f"received {len(received)}", f"both {both}"]
     counts += [f"sent alone {len(sent) - both}", f"received alone {len(received) - both}"] + cut_line(sent, received)
+    counts += behind_line(sent, found)
     lengths = collections.Counter(len(parts_of(sent[number][1])[0]) for number in of_sent)
     table = [
         f"length {n}: both {lengths[n]}, sent alone {sent_lengths[n]}, received alone {received_lengths[n]}"
@@ -108,7 +117,7 @@ def in_parts(printed):
     lines = printed.splitlines()
     start = next((at for at, line in enumerate(lines) if line.startswith("sent ") and " alone " not in line), len(lines))
     sides = [[line for line in lines[:start] if f" {side} alone " in line] for side in ("sent", "received")]
-    behind = start + 5 + any(line.startswith("cut: ") for line in lines)
+    behind = start + 5 + sum(line.startswith(("cut: ", "behind another ")) for line in lines)
     return *sides, lines[start:behind], lines[behind:]
 
 

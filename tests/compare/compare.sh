@@ -51,6 +51,21 @@ sent alone 0
 received alone 0
 cut: sent 3, received 3" "$folder/cut_sent.pcap" "$folder/cut_sent.pcap"
 
+# Three that came in another order: two of them were sent before one that came before them. Of two that were sent at one moment none
+# is behind the other, and one that wasn't sent is behind none.
+PYTHONPATH=tests/compare python3 -Bc '
+import sys
+from compare import write
+write(f"{sys.argv[1]}/order_sent.pcap", [(1, b"a"), (2, b"b"), (3, b"c"), (4, b"d"), (4, b"e")])
+write(f"{sys.argv[1]}/order_received.pcap", [(5, b"c"), (6, b"a"), (6, b"b"), (7, b"x"), (8, b"e"), (9, b"d")])' "$folder"
+wants 1 "sent 5
+received 6
+both 5
+sent alone 0
+received alone 1
+behind another 2
+what was received isn't what was sent" "$folder/order_sent.pcap" "$folder/order_received.pcap"
+
 capture=examples/underlay.pcap
 same=$(./tep compare "$capture" "$capture")
 [ "$?" = 0 ] || complain "a capture isn't the same as itself"

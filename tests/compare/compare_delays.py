@@ -6,7 +6,7 @@ import random
 import subprocess
 import sys
 
-from compare import write
+from compare import behind_line, write
 
 STEPS = 1 << 22
 
@@ -35,11 +35,13 @@ def lines(delays, within, is_shifted):
 
 
 def compared(tep, folder, delays, lost, shift, words):
-    """What is printed of records with these delays, and of some more that are lost, where the clock is so much ahead."""
+    """What is printed of records with these delays, and of some more that are lost, where the clock is so much ahead, and the line of
+    those that are behind another."""
     start = 10_000_000_000
     sent = [(start + 1000 * number, number.to_bytes(60, "big")) for number in range(len(delays) + lost)]
     received = [(moment + delay + shift, octets) for (moment, octets), delay in zip(sent, delays)]
     received.sort(key=lambda record: record[0])
+    both = [(int.from_bytes(octets, "big"), number) for number, (_, octets) in enumerate(received)]
     write(f"{folder}/delays_sent.pcap", sent)
     write(f"{folder}/delays_received.pcap", received)
     done = subprocess.run(
@@ -47,7 +49,7 @@ def compared(tep, folder, delays, lost, shift, words):
         capture_output=True,
         text=True,
     )
-    return done.stdout.splitlines()
+    return done.stdout.splitlines(), behind_line(sent, both)
 
 
 def main():
@@ -75,8 +77,8 @@ def main():
         rows.append((delays, made.randint(0, 5), None, within, ["--within", f"{within}ns"]))
     status = 0
     for delays, lost, shift, within, words in rows:
-        printed = compared(tep, folder, delays, lost, shift or 0, words)
-        wanted = lines(delays, within, shift is not None)
+        printed, behind = compared(tep, folder, delays, lost, shift or 0, words)
+        wanted = behind + lines(delays, within, shift is not None)
         if printed[5:] != wanted:
             print(f"tests/compare/compare_delays.py: of {delays[:8]}.. with {words} it prints {printed}, not {wanted}")
             status = 1

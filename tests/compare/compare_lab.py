@@ -54,19 +54,19 @@ def worked_out(folder):
 
 
 def both(worked, seen):
-    """How many are both: each that was seen is the first that should have left, is the same and isn't taken."""
+    """When those that are both should have left, as they were seen: each is the first that should have left, is the same and isn't
+    taken."""
     awaited = collections.defaultdict(collections.deque)
     for moment, key in worked:
         awaited[key].append(moment)
-    count = 0
+    left = []
     for moment, key in seen:
         queue = awaited[key]
         while queue and queue[0] + WITHIN < moment:
             queue.popleft()
         if queue and queue[0] <= moment:
-            queue.popleft()
-            count += 1
-    return count
+            left.append(queue.popleft())
+    return left
 
 
 def line(word, worked, seen, met):
@@ -82,9 +82,13 @@ def main():
         seen = [*read(folder / f"sent_{place}.pcap")]
         if place == "underlay":
             seen = [(moment, carried(octets) or octets) for moment, octets in seen]
-        counts = [len(leaves[place]), len(seen), both(leaves[place], seen)]
+        left = both(leaves[place], seen)
+        counts = [len(leaves[place]), len(seen), len(left)]
         sums = [one + other for one, other in zip(sums, counts)]
         print(line(word, *counts))
+        behind = sum(moment < max(left[:at], default=0) for at, moment in enumerate(left))
+        if behind:
+            print(f"{word}: behind another {behind}")
     print(line("all", *sums))
 
 

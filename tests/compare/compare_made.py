@@ -10,7 +10,7 @@ import struct
 import subprocess
 import sys
 
-from compare import SECOND, cut_line, cut_to, drawn_end, drawn_snaps, end_lines, matched, parts_of, rising, up_to_fault, write
+from compare import SECOND, behind_line, cut_line, cut_to, drawn_end, drawn_snaps, end_lines, pairs, parts_of, rising, up_to_fault, write
 from made_segments import GENEVE, VXLAN, drawn_settings, frame_segment, number, packet_segment, segment_lines, settings_text
 
 DIFFERS = "what was received isn't what was sent"
@@ -273,7 +273,8 @@ def place_told(word, worked, seen, key, clock, ends, segment_of=None, counts=Non
     """The lines of a place, its counts, and its fault. Each record is counted with its segment, too, where that is asked for."""
     worked, seen, fault = up_to_fault(worked, seen, *clock, ends)
     keyed = [[(moment, key(octets)) for moment, octets in rising(records)] for records in (worked, seen)]
-    are_both = matched(*keyed, *clock)[0]
+    found = pairs(*keyed, *clock)
+    are_both = {number for number, _ in found}
     for side, records in enumerate((worked, seen) if segment_of else ()):
         for at, (_, octets) in enumerate(records):
             row = counts.setdefault(segment_of(octets), [0, 0, 0])
@@ -281,8 +282,8 @@ def place_told(word, worked, seen, key, clock, ends, segment_of=None, counts=Non
             row[2] += side == 0 and at in are_both
     one, other, both = len(worked), len(seen), len(are_both)
     line = f"{word}: sent {one}, received {other}, both {both}, sent alone {one - both}, received alone {other - both}\n"
-    cut = [f"{word}: {line}\n" for line in cut_line(worked, seen) + end_lines(ends, fault)]
-    return line + "".join(cut), (one, other, both), fault
+    behind = [f"{word}: {line}\n" for line in cut_line(worked, seen) + behind_line(worked, found) + end_lines(ends, fault)]
+    return line + "".join(behind), (one, other, both), fault
 
 
 class Case:

@@ -1,17 +1,24 @@
 -- What follows from the definitions, over whole runs. It states no standard.
 use Rattle.std.specs.Prelude.{◌≡◌, ◌<◌, ⊤, ℕ, ◌+◌, ◌-◌, ◌^◌, min, nat_eq, nat_le, ◌&&◌, not, Bool, true, false, if◌then◌else◌}
-use Rattle.std.specs.Prelude.{List, [], ◌∷◌, ◌++◌, filter, length, Option, Some, None, slice_index}
+use Rattle.std.specs.Prelude.{List, [], ◌∷◌, ◌++◌, filter, length, map, Option, Some, None, is_none, slice_index, slice_index_or}
 use Rattle.std.specs.List.{count_by}
-use Rattle.both_ways.specs.Sieve.{Seen, asked, behind, behind_all, entering, fresh, is_taken, taken, window_asked}
+use Rattle.both_ways.specs.Sieve.{Seen, asked, behind, behind_all, coming, entering, fresh, is_taken, taken, window_asked}
 use Rattle.both_ways.specs.Told.{is_sent, place_of}
-use Rattle.echo_window.specs.Echo.{Record, Window, crowded_by, lesser, recent}
+use Rattle.echo_window.specs.Echo.{Arrival, Record, Window, crowded_by, echo_of, first_met, is_echo_of, lesser, met_again, recent}
+use Rattle.endpoint_core.specs.Opened.{settings_told}
 use Rattle.endpoint_core.specs.Settings.{Settings}
+use Rattle.overlay.specs.Settings as overlay
 use Rattle.overlay.specs.declared.settings.change.TimedChange.{TimedChange}
+use Rattle.stream_run.specs.Left.{texts_of}
+use Rattle.stream_run.specs.Sieved.{all_taken, settings_behind}
+use Rattle.timeline.specs.Order.{IsRising}
 use Rattle.timeline.specs.declared.event.Event.{Event}
 use Rattle.timeline.specs.declared.event.Happening.{Happening}
 use Rattle.timeline.specs.declared.event.Happening.TheVariants as happenings
 use Rattle.timeline.specs.declared.source.Tap.TheVariants.{Port, Underlay as AtUnderlay}
+use Rattle.timeline.specs.declared.timeline.Cut.{Cut}
 use Rattle.overlay.specs.declared.underlay.settings.Underlay.{Underlay}
+use Rattle.segment_set.specs.Segments.{Segments}
 use Rattle.wire.specs.Octets.{is_same}
 
 -- those of some events in a row that aren't input
@@ -136,3 +143,106 @@ CountsWhatIsForgotten =
       count = min (2 ^ 64 - 1) (length (forgotten_ages (fresh within S cs) es));
       least_age = least (forgotten_ages (fresh within S cs) es);
     }
+
+-- ---- what came in, and what the switch sent for it
+
+-- an event where captures hold both directions, and what it is. None: it came in. Some: the switch sent it; at a port for the
+-- frame of this number, from 0, of those that came to a segment which may send them out. At the underlay the number tells
+-- nothing
+pub record Marked : Type 0 where
+  pub event : Event
+  pub sent_for : Option ℕ
+
+-- all events, as a run meets them
+abbrev pub events : List Marked → List Event
+events ms = map (λ m. m.event) ms
+
+-- those that came in
+abbrev pub inputs : List Marked → List Event
+inputs ms = events (filter (λ m. is_none m.sent_for) ms)
+
+-- what came in before an event: the settings that it left in force, and the changes of the run; the frames that came to a
+-- segment, the earliest first, each awaited at all ports that may send it out; and the same, each awaited where it wasn't sent
+-- yet
+pub record Before : Type 0 where
+  pub settings : Settings
+  pub changes : List TimedChange
+  pub came : List Arrival
+  pub owed : List Arrival
+
+-- nothing did
+abbrev pub nothing_before : Settings → List TimedChange → Before
+nothing_before S changes = record { settings = S; changes = changes; came = []; owed = [] }
+
+-- it may have come in: at a port it is an echo of no frame that did, whether that was sent there yet or not; at the underlay
+-- another sent it
+abbrev pub MayComeIn : ℕ → Before → ℕ → Happening → Type 0
+MayComeIn within b moment (happenings.Change index) = ⊤
+MayComeIn within b moment (happenings.Record (Port port) c) = echo_of within b.came (asked port moment c.octets) ≡ None
+MayComeIn within b moment (happenings.Record AtUnderlay c) = is_sent b.settings.overlay.underlay c.octets ≡ false
+
+-- it may have been sent for the frame of this number: at a port it is an echo of that, which wasn't sent there yet; at the
+-- underlay the endpoint sent it
+abbrev pub MayBeSent : ℕ → Before → ℕ → ℕ → Happening → Type 0
+MayBeSent within b n moment (happenings.Change index) = ⊥
+MayBeSent within b n moment (happenings.Record (Port port) c) =
+    let r = asked port moment c.octets in is_echo_of within r (slice_index_or b.owed n (first_met r)) ≡ true
+MayBeSent within b n moment (happenings.Record AtUnderlay c) = is_sent b.settings.overlay.underlay c.octets ≡ true
+
+-- frames that came in, and one behind them, or none
+abbrev pub with_last : List Arrival → Option Record → List Arrival
+with_last came None = came
+with_last came (Some r) = came ++ first_met r ∷ []
+
+-- what came in behind what comes in
+abbrev pub came_behind : Before → ℕ → Happening → Before
+came_behind b moment (happenings.Change index) = record b { settings = settings_behind b.changes (happenings.Change index) b.settings }
+came_behind b moment (happenings.Record tap c) =
+    let o = coming b.settings tap moment c in record b { came = with_last b.came o; owed = with_last b.owed o }
+
+-- and behind what is sent for the frame of this number
+abbrev pub sent_behind : Before → ℕ → ℕ → Happening → Before
+sent_behind b n moment (happenings.Change index) = b
+sent_behind b n moment (happenings.Record (Port port) c) = record b { owed = met_again (asked port moment c.octets) b.owed n }
+sent_behind b n moment (happenings.Record AtUnderlay c) = b
+
+-- an event may be what its mark says
+abbrev pub MayBe : ℕ → Before → Option ℕ → Event → Type 0
+MayBe within b None e = MayComeIn within b e.moment e.happening
+MayBe within b (Some n) e = MayBeSent within b n e.moment e.happening
+
+-- what came in behind it
+abbrev pub behind_marked : Before → Option ℕ → Event → Before
+behind_marked b None e = came_behind b e.moment e.happening
+behind_marked b (Some n) e = sent_behind b n e.moment e.happening
+
+-- and so each of some events in a row
+abbrev pub EachMayBe : ℕ → Before → List Marked → Type 0
+EachMayBe within b [] = ⊤
+EachMayBe within b (m ∷ ms) = MayBe within b m.sent_for m.event × EachMayBe within (behind_marked b m.sent_for m.event) ms
+
+-- events of a run whose captures hold both directions. For example, ports 1 and 2 are members of a segment, and the time is 10
+-- ms. A frame comes in at port 1 at 0 ms, and again at 1 ms; it stands at port 2 at 2 ms, sent for frame 1, and at 3 ms, with
+-- a tag, sent for frame 0. These are marked right, and the first two are the inputs. If it came in at port 2 at 4 ms, no mark
+-- would be right there: it is like what is sent there, and nothing is owed
+pub record AreBothWays (within : ℕ) (S : Settings) (changes : List TimedChange) (ms : List Marked) : Type 0 where
+  -- moments never fall
+  pub rising : IsRising 0 (events ms)
+  pub marked : EachMayBe within (nothing_before S changes) ms
+  -- no frame goes for want of room although an echo of it might still come
+  pub kept : forgotten_ages (fresh within S changes) (events ms) ≡ []
+
+-- a law: of them those are taken in that came in
+abbrev pub GivesTheInputsBack : Type 0
+GivesTheInputsBack =
+    (within : ℕ) (S : Settings) (cs : List TimedChange) (ms : List Marked) → AreBothWays within S cs ms
+    → taken (fresh within S cs) (events ms) ≡ inputs ms
+
+-- a law: so the outputs of a run of them all are those of a run of the inputs alone, each by the number that it has in its
+-- capture
+abbrev pub RunsTheSame : Type 0
+RunsTheSame =
+    (within : ℕ) (s : overlay.Settings) (changes : List TimedChange) (ms : List Marked) → AreBothWays within (settings_told s) changes ms
+    → (segments : Segments) (cuts : List Cut)
+    → texts_of (taken (fresh within (settings_told s) changes)) segments s changes (events ms) cuts
+    ≡ texts_of all_taken segments s changes (inputs ms) cuts

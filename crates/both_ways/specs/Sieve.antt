@@ -4,16 +4,15 @@
 --     behind       what is known behind an event
 --     behind_all   what is known behind some events in a row: its counts tell how many records at each place aren't input
 use Rattle.std.specs.Prelude.{◌≡◌, refl, ℕ, ◌+◌, ◌-◌, ◌^◌, min, not, Bool, true, is_some}
-use Rattle.std.specs.Prelude.{if◌then◌else◌, List, [], ◌∷◌, length, replicate, set, slice_get, slice_index, Option, Some, None}
+use Rattle.std.specs.Prelude.{if◌then◌else◌, List, [], ◌∷◌, length, replicate, set, slice_index, Option, Some, None}
 use Rattle.both_ways.specs.declared.sieve.BothWays.{BothWays}
 use Rattle.both_ways.specs.Told.{brought, is_sent, no_places, place_of, untagged}
 use Rattle.echo_window.specs.Echo.{Record, Window, behind_entered, behind_met, echo_of, new_window}
 use Rattle.endpoint_core.specs.Arrival.{came_at, came_by}
-use Rattle.endpoint_core.specs.Change.{changed}
-use Rattle.endpoint_core.specs.Kept.{state_of}
 use Rattle.endpoint_core.specs.Settings.{Settings}
 use Rattle.overlay.specs.Ports.{is_port}
 use Rattle.overlay.specs.declared.settings.change.TimedChange.{TimedChange}
+use Rattle.stream_run.specs.Sieved.{settings_behind}
 use Rattle.timeline.specs.Captured.{Captured}
 use Rattle.timeline.specs.declared.event.Event.{Event}
 use Rattle.timeline.specs.declared.event.Happening.{Happening}
@@ -33,23 +32,9 @@ pub record Seen : Type 0 where
 abbrev pub fresh : ℕ → Settings → List TimedChange → Seen
 fresh within S changes = record { settings = S; changes = changes; window = new_window within; counts = replicate 256 0 }
 
--- what the code knows
-abbrev pub seen_of : BothWays → Seen
-seen_of b = record {
-  settings = (state_of b.endpoint).bridges.settings;
-  changes = b.changes.items;
-  window = b.window;
-  counts = b.left_out;
-}
-
--- the settings in force behind a change, or behind none
-abbrev pub changed_by : Option TimedChange → Settings → Settings
-changed_by None S = S
-changed_by (Some c) S = changed S c.change
-
--- and behind that of this index
-abbrev pub settings_behind : List TimedChange → ℕ → Settings → Settings
-settings_behind changes index S = changed_by (slice_get changes index) S
+-- what the code knows, where these settings are in force and these are the changes of the run
+abbrev pub seen_of : BothWays → Settings → List TimedChange → Seen
+seen_of b S changes = record { settings = S; changes = changes; window = b.window; counts = b.left_out }
 
 -- ---- a record
 
@@ -107,7 +92,7 @@ happens_in s moment (happenings.Record tap c) = is_input s tap moment c
 
 -- what is known behind what happens
 abbrev pub happened : Seen → ℕ → Happening → Seen
-happened s moment (happenings.Change index) = record s { settings = settings_behind s.changes index s.settings }
+happened s moment (happenings.Change index) = record s { settings = settings_behind s.changes (happenings.Change index) s.settings }
 happened s moment (happenings.Record tap c) = record_behind s tap moment c
 
 -- an event is input
@@ -129,5 +114,5 @@ behind_all s [] = s
 behind_all s (e ∷ es) = behind_all (behind s e) es
 
 -- of none it takes none
-pub none_taken : (b : BothWays) → taken (seen_of b) [] ≡ []
-none_taken b = refl
+pub none_taken : (b : BothWays) (S : Settings) (changes : List TimedChange) → taken (seen_of b S changes) [] ≡ []
+none_taken b S changes = refl

@@ -1,5 +1,6 @@
 //! Laws of the definitions, as contracts of functions that do nothing.
-ghost use Rattle.both_ways.specs.Laws.{CountsWhatIsForgotten, CountsWhatIsLeftOut, LeavesWhole, TakesInTurn, TakesWhatOthersSent};
+ghost use Rattle.both_ways.specs.Laws.{CountsWhatIsForgotten, CountsWhatIsLeftOut, GivesTheInputsBack, LeavesWhole};
+ghost use Rattle.both_ways.specs.Laws.{RunsTheSame, TakesInTurn, TakesWhatOthersSent};
 
 /// What is input of two rows of events, one behind the other, is what is of the first, and then what is of the second by all
 /// that is known behind the first.
@@ -27,4 +28,15 @@ pub fn leaves_whole()
 /// to 2^64 - 1, and the least of the ages at which they went.
 pub fn counts_what_is_forgotten()
     ensures { CountsWhatIsForgotten }
+{}
+
+/// Of the events of a run whose captures hold both directions, those are input that came in, and so the outputs are those of
+/// a run of these alone, each by the number that it has in its capture. Of such a run moments never fall, and no frame is
+/// forgotten for want of room while an echo of it might still come. What came in at a port is, without its tag, like no
+/// frame that came in elsewhere at most the time before to a segment that sends frames out there; at the underlay it has no
+/// own source. What the switch sent at a port it sent for a frame that came in, and once for each: one that came in so,
+/// elsewhere, and is the same without tags; which one of several doesn't matter. At the underlay it has an own source.
+pub fn gives_the_inputs_back()
+    ensures inputs { GivesTheInputsBack }
+    ensures run { RunsTheSame }
 {}

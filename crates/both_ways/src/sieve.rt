@@ -1,13 +1,17 @@
 //! The sieve.
-ghost use Rattle.std.specs.Prelude.{◌≡◌, ◌∷◌, ◌++◌, List, IfOk, if◌then◌else◌, is_some, slice_index};
+ghost use Rattle.std.specs.Prelude.{◌≡◌, ◌∷◌, List, IfOk, if◌then◌else◌, is_some, slice_index};
 ghost use Rattle.echo_window.specs.Echo.{behind_met};
-ghost use Rattle.endpoint_core.specs.Opened.{settings_told};
-ghost use Rattle.timeline.specs.Captured.{Captured as ACaptured};
+ghost use Rattle.endpoint_core.specs.Kept.{state_of};
+ghost use Rattle.endpoint_core.specs.Settings.{Settings};
+ghost use Rattle.overlay.specs.declared.settings.change.TimedChange.{TimedChange as ATimedChange};
+ghost use Rattle.stream_run.specs.Sieved.{settings_behind};
+ghost use Rattle.stream_run.specs.Sights.{IsBrought};
 ghost use Rattle.timeline.specs.declared.event.Event.{Event as AnEvent};
+ghost use Rattle.timeline.specs.declared.event.Happening.TheVariants.{Record as Recorded};
 ghost use Rattle.timeline.specs.declared.source.Tap.TheVariants.{Port, Underlay as AtUnderlay};
 ghost use Rattle.both_ways.specs.Line.{line_of};
 ghost use Rattle.both_ways.specs.Sieve.{asked, behind, counted, fresh, is_echo, is_input, is_taken, none_taken, record_behind};
-ghost use Rattle.both_ways.specs.Sieve.{seen_of, settings_behind, taken};
+ghost use Rattle.both_ways.specs.Sieve.{seen_of, taken};
 ghost use Rattle.both_ways.specs.Told.{place_of};
 
 use crate::coming::enter;
@@ -15,62 +19,65 @@ use crate::line::ForgottenLine;
 use crate::place::{place_of, untagged};
 use crate::sender::is_sent;
 use echo_window::{Forgotten, PlaceSet, Record, Window};
-use endpoint_core::Endpoint;
-use overlay_config::TimedChange;
+use endpoint_core::{Endpoint, Forwarding};
 use std::alloc::{AllocError, Global};
-use stream_run::{ReadTexts, Sieve};
+use stream_run::Sieve;
 use timeline::{Captured, Event, Happening, Tap};
+
+/// How long behind its frame what the switch sent may come, in nanoseconds, where no other time is asked for.
+pub const WITHIN: u64 = 10_000_000;
 
 /// How many numbers a place could have.
 const PLACES: usize = 256;
 
-/// Which events of a run are input. It knows the settings in force and the latest frames that came in, and counts what it leaves
-/// out. Only [`BothWays::new`] takes memory.
+/// Which events of a run are input. It knows the latest frames that came in, and counts what it leaves out; the settings in force
+/// are those of the run's endpoint, which it is lent. Only [`BothWays::new`] takes memory.
 #[derive(Drop)]
 pub struct BothWays {
-    /// One that is told the changes of the run, and nothing else: it has the settings in force.
-    endpoint: Endpoint,
-    changes: Vec<TimedChange>,
     window: Window,
     /// By the numbers of the places. Each number that a port could have has its count, so that none is looked for.
     left_out: [u64; PLACES],
 }
 
 impl BothWays {
-    /// No event was shown yet. An echo comes at most `within` nanoseconds behind the frame that it is of; the texts are those of
-    /// the run. `AllocError`: there was no memory for the frames that it may keep, or for the settings.
-    pub fn new(alloc: Global, within: u64, texts: ReadTexts) -> Result<BothWays, AllocError>
-        ensures { IfOk result (λ both. seen_of both ≡ fresh within (settings_told texts.settings) texts.changes.items) }
+    /// No event was shown yet. An echo comes at most `within` nanoseconds behind the frame that it is of. `AllocError`: there was
+    /// no memory for the frames that it may keep.
+    pub fn new(alloc: Global, within: u64) -> Result<BothWays, AllocError>
+        ensures { IfOk result (λ both. (S : Settings) (changes : List ATimedChange) → seen_of both S changes ≡ fresh within S changes) }
     {
-        let ReadTexts { settings, changes } = texts;
         Ok(BothWays {
-            endpoint: Endpoint::open(alloc, settings)?,
-            changes,
             window: Window::new(alloc, within)?,
             left_out: [0; PLACES],
         })
     }
 
-    /// Whether the next event is input. Where it isn't, it is counted at its place.
+    /// Whether the next event is input, by the settings in force at the run's endpoint, and by the frame that the event brings to
+    /// a segment there, or why it brings none. Where it isn't, it is counted at its place.
     #[inline(always)]
-    pub fn is_input(&mut self, event: &Event) -> bool
-        ensures answer { result ≡ is_taken (seen_of self.old) event.now }
-        ensures behind { seen_of self.new ≡ behind (seen_of self.old) event.now }
-        ensures taken { (es : List AnEvent) → taken (seen_of self.old) (event.now ∷ es)
-            ≡ (if result then event.now ∷ taken (seen_of self.new) es else taken (seen_of self.new) es) }
+    pub fn is_input(&mut self, endpoint: &Endpoint, event: &Event, came: &Forwarding) -> bool
+        requires { IsBrought (state_of endpoint.now).bridges.settings event.now.happening came.now }
+        ensures answer { (changes : List ATimedChange)
+            → result ≡ is_taken (seen_of self.old (state_of endpoint.now).bridges.settings changes) event.now }
+        ensures behind { (changes : List ATimedChange)
+            → seen_of self.new (settings_behind changes event.now.happening (state_of endpoint.now).bridges.settings) changes
+            ≡ behind (seen_of self.old (state_of endpoint.now).bridges.settings changes) event.now }
+        ensures taken { (changes : List ATimedChange) (next : Settings) (es : List AnEvent)
+            → next ≡ settings_behind changes event.now.happening (state_of endpoint.now).bridges.settings
+            → taken (seen_of self.old (state_of endpoint.now).bridges.settings changes) (event.now ∷ es)
+            ≡ (if result then event.now ∷ taken (seen_of self.new next changes) es else taken (seen_of self.new next changes) es) }
     {
         match &event.happening {
-            Happening::Change(index) => {
-                self.make_change(*index);
-                true
+            Happening::Change(_) => true,
+            Happening::Record(tap, captured) => {
+                self.takes_record(endpoint, *tap, event.moment, captured, came)
             }
-            Happening::Record(tap, captured) => self.takes_record(*tap, event.moment, captured),
         }
     }
 
     /// How many records at a place weren't input, up to 2^64 - 1.
     pub fn left_out(&self, tap: Tap) -> u64
-        ensures { result ≡ slice_index (seen_of self.now).counts (place_of tap) }
+        ensures { (S : Settings) (changes : List ATimedChange)
+            → result ≡ slice_index (seen_of self.now S changes).counts (place_of tap) }
     {
         self.left_out[usize::from(place_of(tap))]
     }
@@ -78,14 +85,14 @@ impl BothWays {
     /// What it forgot of the frames that came in for want of room, although an echo of it might still have come. With a time
     /// below the least age each of these would have been too early for one.
     pub fn forgotten(&self) -> Forgotten
-        ensures { result ≡ (seen_of self.now).window.forgotten }
+        ensures { (S : Settings) (changes : List ATimedChange) → result ≡ (seen_of self.now S changes).window.forgotten }
     {
         self.window.forgotten()
     }
 
     /// The line that tells of it, where it forgot any.
     pub fn forgotten_line(&self) -> Option<ForgottenLine>
-        ensures { result ≡ line_of (seen_of self.now).window }
+        ensures { (S : Settings) (changes : List ATimedChange) → result ≡ line_of (seen_of self.now S changes).window }
     {
         let forgotten = self.window.forgotten();
         if forgotten.count == 0 {
@@ -97,26 +104,24 @@ impl BothWays {
         })
     }
 
-    /// Makes the change of this index, or refuses it, as the run does. Of the settings moments say nothing.
-    fn make_change(&mut self, index: usize)
-        ensures { seen_of self.new ≡ record (seen_of self.old)
-            { settings = settings_behind (seen_of self.old).changes index (seen_of self.old).settings } }
-    {
-        if index < self.changes.len() {
-            let change = self.changes[index].change;
-            let now = self.endpoint.now();
-            let _ = self.endpoint.change(now, change);
-        }
-    }
-
     /// Whether a record is input.
-    fn takes_record(&mut self, tap: Tap, moment: u64, captured: &Captured) -> bool
-        ensures answer { result ≡ is_input (seen_of self.old) tap moment captured.now }
-        ensures behind { seen_of self.new ≡ record_behind (seen_of self.old) tap moment captured.now }
+    fn takes_record(
+        &mut self,
+        endpoint: &Endpoint,
+        tap: Tap,
+        moment: u64,
+        captured: &Captured,
+        came: &Forwarding,
+    ) -> bool
+        requires { IsBrought (state_of endpoint.now).bridges.settings (Recorded tap captured.now) came.now }
+        ensures answer { (changes : List ATimedChange)
+            → result ≡ is_input (seen_of self.old (state_of endpoint.now).bridges.settings changes) tap moment captured.now }
+        ensures behind { (changes : List ATimedChange) → seen_of self.new (state_of endpoint.now).bridges.settings changes
+            ≡ record_behind (seen_of self.old (state_of endpoint.now).bridges.settings changes) tap moment captured.now }
     {
         let is_input = match tap {
-            Tap::Port(port) => self.takes_frame(port, moment, captured),
-            Tap::Underlay => self.takes_packet(moment, captured),
+            Tap::Port(port) => self.takes_frame(endpoint, port, moment, captured, came),
+            Tap::Underlay => self.takes_packet(endpoint, moment, captured, came),
         };
         if !is_input {
             count(&mut self.left_out, place_of(tap));
@@ -125,60 +130,68 @@ impl BothWays {
     }
 
     /// Whether a record at a port is input, uncounted.
-    fn takes_frame(&mut self, port: u8, moment: u64, captured: &Captured) -> bool
-        ensures answer { result ≡ is_input (seen_of self.old) (Port port) moment captured.now }
-        ensures behind { seen_of self.new ≡ record (record_behind (seen_of self.old) (Port port) moment captured.now)
-            { counts = (seen_of self.old).counts } }
+    fn takes_frame(
+        &mut self,
+        endpoint: &Endpoint,
+        port: u8,
+        moment: u64,
+        captured: &Captured,
+        came: &Forwarding,
+    ) -> bool
+        requires { IsBrought (state_of endpoint.now).bridges.settings (Recorded (Port port) captured.now) came.now }
+        ensures answer { (changes : List ATimedChange)
+            → result ≡ is_input (seen_of self.old (state_of endpoint.now).bridges.settings changes) (Port port) moment captured.now }
+        ensures behind { (changes : List ATimedChange) → seen_of self.new (state_of endpoint.now).bridges.settings changes
+            ≡ record (record_behind (seen_of self.old (state_of endpoint.now).bridges.settings changes) (Port port) moment captured.now)
+            { counts = (seen_of self.old (state_of endpoint.now).bridges.settings changes).counts } }
     {
         if is_echo(&mut self.window, port, moment, captured.octets) {
             return false;
         }
-        if port >= 1 && port <= self.endpoint.ports() {
-            let came = self
-                .endpoint
-                .frame_from(port, captured.original, captured.octets);
-            enter(
-                &mut self.window,
-                self.endpoint.state().ports(),
-                port,
-                moment,
-                &came,
-            );
-        }
+        enter(
+            &mut self.window,
+            endpoint.state().ports(),
+            port,
+            moment,
+            came,
+        );
         true
     }
 
     /// Whether a record at the underlay is input, uncounted.
-    fn takes_packet(&mut self, moment: u64, captured: &Captured) -> bool
-        ensures answer { result ≡ is_input (seen_of self.old) AtUnderlay moment captured.now }
-        ensures behind { seen_of self.new ≡ record (record_behind (seen_of self.old) AtUnderlay moment captured.now)
-            { counts = (seen_of self.old).counts } }
+    fn takes_packet(
+        &mut self,
+        endpoint: &Endpoint,
+        moment: u64,
+        captured: &Captured,
+        came: &Forwarding,
+    ) -> bool
+        requires { IsBrought (state_of endpoint.now).bridges.settings (Recorded AtUnderlay captured.now) came.now }
+        ensures answer { (changes : List ATimedChange)
+            → result ≡ is_input (seen_of self.old (state_of endpoint.now).bridges.settings changes) AtUnderlay moment captured.now }
+        ensures behind { (changes : List ATimedChange) → seen_of self.new (state_of endpoint.now).bridges.settings changes
+            ≡ record (record_behind (seen_of self.old (state_of endpoint.now).bridges.settings changes) AtUnderlay moment captured.now)
+            { counts = (seen_of self.old (state_of endpoint.now).bridges.settings changes).counts } }
     {
-        if is_sent(self.endpoint.under().settings(), captured.octets) {
+        if is_sent(endpoint.under().settings(), captured.octets) {
             return false;
         }
-        let came = self.endpoint.frame_in(captured.original, captured.octets);
-        enter(
-            &mut self.window,
-            self.endpoint.state().ports(),
-            0,
-            moment,
-            &came,
-        );
+        enter(&mut self.window, endpoint.state().ports(), 0, moment, came);
         true
     }
 }
 
 impl Sieve for BothWays {
-    ghost taken = { λ s. taken (seen_of s) };
+    ghost taken = { λ s S changes. taken (seen_of s S changes) };
 
     ghost none = { none_taken };
 
-    ghost goes = { λ old e new. seen_of new ≡ behind (seen_of old) e };
+    ghost goes = { λ old S changes e new.
+        seen_of new (settings_behind changes e.happening S) changes ≡ behind (seen_of old S changes) e };
 
     #[inline(always)]
-    fn takes(&mut self, event: &Event) -> bool {
-        self.is_input(event)
+    fn takes(&mut self, endpoint: &Endpoint, event: &Event, came: &Forwarding) -> bool {
+        self.is_input(endpoint, event, came)
     }
 }
 

@@ -1,7 +1,7 @@
 //! Captures that look as if they had both directions, though a run without `--both` takes all that is in them.
 ghost use Rattle.std.specs.Prelude.{◌<◌};
 
-use both_ways::{BothWays, Nobody, WITHIN, sieve_of};
+use both_ways::{BothWays, Nobody, WITHIN};
 use capture_survey::Echoes;
 use program_faults::Failure;
 use program_files::{FailedOutputs, Names, Shown, print_shown};
@@ -89,8 +89,7 @@ fn sieve_behind<'j, R: Files + Input + AllocGlobal>(
     names: Names<'j, '_>,
     texts: &'j Texts,
 ) -> Option<BothWays> {
-    let (settings, changes) = (texts.settings.as_slice(), texts.changes.as_slice());
-    let Ok(Some(sieve)) = sieve_of(rt.alloc(), settings, changes, Some(WITHIN)) else {
+    let Ok(sieve) = BothWays::new(rt.alloc(), WITHIN) else {
         return None;
     };
     let mut sieve = sieve;

@@ -1,12 +1,8 @@
 -- The names of tables of what is compared. It states no standard.
-use Rattle.std.specs.Prelude.{◌||◌, Bool, codes, if◌then◌else◌, Option, None, Some}
-use Rattle.std.specs.Str.{bytes_eq}
+use Rattle.std.specs.Prelude.{if◌then◌else◌, Option, None, Some}
 use Rattle.clap.specs.Words.{Text}
+use Rattle.compare_reports.specs.Told.{is_table_name}
 use Rattle.command_line.specs.Meaning.{Meaning, compare, compare_worked}
-
--- a table of what is compared has this name
-abbrev pub is_table_name : Text → Bool
-is_table_name name = bytes_eq name (codes "length") || bytes_eq name (codes "delay")
 
 -- a name, where no table has it
 abbrev pub unknown_table : Option Text → Option Text

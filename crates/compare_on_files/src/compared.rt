@@ -1,21 +1,16 @@
 //! What was sent, compared with what was received.
-ghost use Rattle.std.specs.Prelude.{◌≤◌, IfOk, IfSome};
+ghost use Rattle.std.specs.Prelude.{◌≤◌, IfOk, option_map};
+ghost use Rattle.compare_reports.specs.Times.{IsAsked};
 
-use crate::opened::compare_whole;
-use crate::paired::Pairing;
-use crate::report::Told;
-use command_line::time_of;
+use crate::lent::{Names, compare_lent, unless_same};
+use crate::standard_output::StandardOutput;
+use capture_compare::carried::{Manner, Sameness};
+use compare_reports::{Asked, ClockFault, Segments, clock_of};
 use program_faults::Failure;
 use program_files::{Shown, open_seen};
 use record_match::Clock;
 use std::io::Input;
 use std::rt::Files;
-
-/// How much later a record may be received, in nanoseconds, where no other time is asked for.
-const WITHIN: u64 = 1_000_000_000;
-
-/// The longest of these times, in nanoseconds: 31 years.
-const LONGEST: u64 = 1_000_000_000_000_000_000;
 
 /// What is compared, by the words.
 #[derive(Clone, Copy)]
@@ -45,85 +40,37 @@ pub fn compare<'a, R: Files + Input + AllocGlobal + Print>(
     rt: &R,
     asked: Compared<'a>,
 ) -> Result<(), Failure<'a>> {
-    let clock = clock_of(asked.within, asked.shift)?;
-    let told = Told::of(
-        asked.shown,
-        asked.lists,
-        asked.by,
-        clock,
-        asked.shift.is_some(),
-    );
-    let pairing = Pairing {
-        at: None,
+    let clock = clock_by(asked.within, asked.shift)?;
+    let told = Asked::of(clock, asked.shift.is_some(), asked.lists, asked.by);
+    let manner = Manner {
+        sameness: Sameness::Whole,
+        ignores_reserved: asked.ignores,
+    };
+    let names = Names {
         sent: asked.sent,
         received: asked.received,
-        clock,
     };
     let (_, mut sent) = open_seen(rt, asked.sent)?;
     let (_, mut received) = open_seen(rt, asked.received)?;
-    let counts = compare_whole(rt, &pairing, told, asked.ignores, &mut sent, &mut received)?;
-    if counts.is_same() {
-        Ok(())
-    } else {
-        Err(Failure::Differs)
-    }
+    let output: StandardOutput<'_, 'a, R, R::File> = StandardOutput::new(rt, asked.shown);
+    let told_to = (output, Segments::none());
+    let (_, _, counts) = compare_lent(told, &manner, names, &mut sent, &mut received, told_to)?;
+    unless_same(counts)
 }
 
 /// The clock that the words ask for.
-pub(crate) fn clock_of<'a>(
+pub(crate) fn clock_by<'a>(
     within: Option<&'a str>,
     shift: Option<&'a str>,
 ) -> Result<Clock, Failure<'a>>
     ensures sent { IfOk result (λ clock. clock.sent_delay ≤ 2000000000000000000) }
     ensures received { IfOk result (λ clock. clock.received_delay ≤ 2000000000000000000) }
+    ensures asked { IfOk result (λ clock. IsAsked (option_map (λ text. text.now) within.entry) (option_map (λ text. text.now) shift.entry)
+        clock) }
 {
-    let time = match within {
-        Some(text) => match bounded(text) {
-            Some(time) => time,
-            None => return Err(Failure::Within(text)),
-        },
-        None => WITHIN,
-    };
-    match shift {
-        Some(text) => match shifted(text, time) {
-            Some(clock) => Ok(clock),
-            None => Err(Failure::Shift(text)),
-        },
-        None => Ok(Clock::same(time)),
-    }
-}
-
-/// The clock where what was received is ahead by this time, or behind where it begins with `-`.
-fn shifted(text: &str, within: u64) -> Option<Clock>
-    requires { within ≤ 1000000000000000000 }
-    ensures sent { IfSome result (λ clock. clock.sent_delay ≤ 2000000000000000000) }
-    ensures received { IfSome result (λ clock. clock.received_delay ≤ 2000000000000000000) }
-{
-    match text.strip_prefix('-') {
-        Some(time) => clock_by(bounded(time), within, true),
-        None => clock_by(bounded(text), within, false),
-    }
-}
-
-/// The clock that is so much ahead, or behind.
-fn clock_by(shift: Option<u64>, within: u64, is_behind: bool) -> Option<Clock>
-    requires within { within ≤ 1000000000000000000 }
-    requires shift { IfSome shift (λ time. time ≤ 1000000000000000000) }
-    ensures sent { IfSome result (λ clock. clock.sent_delay ≤ 2000000000000000000) }
-    ensures received { IfSome result (λ clock. clock.received_delay ≤ 2000000000000000000) }
-{
-    match shift {
-        Some(shift) => Some(Clock::shifted(within, shift, is_behind)),
-        None => None,
-    }
-}
-
-/// The nanoseconds of a time, at most the longest.
-fn bounded(text: &str) -> Option<u64>
-    ensures { IfSome result (λ time. time ≤ 1000000000000000000) }
-{
-    match time_of(text) {
-        Some(time) if time <= LONGEST => Some(time),
-        _ => None,
+    match clock_of(within, shift) {
+        Ok(clock) => Ok(clock),
+        Err(ClockFault::Within(text)) => Err(Failure::Within(text)),
+        Err(ClockFault::Shift(text)) => Err(Failure::Shift(text)),
     }
 }

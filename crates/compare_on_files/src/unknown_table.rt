@@ -3,8 +3,8 @@ ghost use Rattle.std.specs.Prelude.{◌≡◌, option_map};
 ghost use Rattle.command_line.specs.Meaning.{meaning_of};
 ghost use Rattle.compare_on_files.specs.Tables.{no_table_in, unknown_table};
 
-use crate::tables::TableBy;
 use command_line::Line;
+use compare_reports::TableBy;
 
 /// The name by which a line asks for a table that there is none of.
 pub fn no_table_name<'a>(line: &Line<'a>) -> Option<&'a str>

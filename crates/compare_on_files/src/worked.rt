@@ -1,22 +1,25 @@
 //! What a run wrote, compared with what was captured of what went out.
-ghost use Rattle.std.specs.Prelude.{◌≤◌};
+ghost use Rattle.std.specs.Prelude.{◌≡◌, ◌≤◌, ◌+◌, ◌++◌, OnOk, Some, codes, min};
+ghost use Rattle.timeline.specs.Words.{tap_word};
+ghost use Rattle.timeline.specs.declared.source.Tap.TheVariants.{Port};
+ghost use Rattle.capture_compare.specs.Counts.{counts_text};
+ghost use Rattle.capture_compare.specs.declared.lines.counts.Scope.TheVariants as scopes;
 
-use crate::compared::clock_of;
-use crate::opened::{compare_open, print_lines};
-use crate::paired::Pairing;
-use crate::report::Told;
-use crate::segments::Segments;
+use crate::compared::clock_by;
+use crate::lent::{Names, compare_lent, unless_same};
+use crate::standard_output::{StandardOutput, open_output};
 use capture_compare::carried::{Manner, Sameness};
-use capture_compare::lines::{Counts, Scope};
+use capture_compare::lines::{CountLines, Counts, Scope};
+use capture_run::of_settings;
 use command_line::NO_CAPTURE;
+use compare_reports::{Asked, Printer, Segments, print_told};
+use overlay_config::settings_of;
 use program_faults::{Failure, OutputFile, WorkedFailure};
-use program_files::{Shown, open_seen, open_written, path_of, print_shown};
-use record_match::Clock;
+use program_files::{Shown, open_seen, open_written, path_of, read_file};
 use std::alloc::AllocError;
-use std::fs;
 use std::io::Input;
 use std::rt::Files;
-use text_calls::tap_of;
+use std::{fmt, fs};
 use timeline::Tap;
 
 /// What is compared, by the words.
@@ -55,71 +58,94 @@ pub fn compare_worked<'a, R: Files + Input + AllocGlobal + Print>(
     rt: &R,
     asked: Worked<'_, 'a>,
 ) -> Result<(), Failure<'a>> {
-    let clock = clock_of(asked.within, asked.shift)?;
-    let mut segments = Segments::open(rt, asked.settings)?;
+    let clock = clock_by(asked.within, asked.shift)?;
+    let segments = open_segments(rt, asked.settings)?;
     let tunnels = segments.tunnels()?;
-    let told = Told::of(
-        asked.shown,
-        asked.lists,
-        asked.by,
-        clock,
-        asked.shift.is_some(),
-    );
+    let told = Asked::of(clock, asked.shift.is_some(), asked.lists, asked.by);
     check_folder(rt, asked)?;
     check_twice(asked)?;
     let at_underlay = Manner {
         sameness: Sameness::of_underlay(tunnels, asked.strict),
         ignores_reserved: asked.ignores,
     };
-    let at_ports = compare_ports(rt, asked, clock, told, &mut segments)?;
+    let (segments, at_ports) = compare_ports(rt, asked, told, segments)?;
     let place = Place {
         tap: Tap::Underlay,
         output: OutputFile::Underlay,
         seen: asked.underlay,
     };
-    let all = at_ports.and(compare_place(
-        rt,
-        asked.folder,
-        place,
-        &at_underlay,
-        clock,
-        told,
-        &mut segments,
-    )?);
-    segments.print(rt, asked.shown)?;
-    print_lines(rt, asked.shown, Scope::All, all)?;
-    if all.is_same() {
-        Ok(())
-    } else {
-        Err(Failure::Differs)
+    let (segments, at_last) = compare_place(rt, asked, place, &at_underlay, told, segments)?;
+    let mut output: StandardOutput<'_, 'a, R, R::File> = StandardOutput::new(rt, asked.shown);
+    print_sums(&mut output, &segments, at_ports.and(at_last))
+}
+
+/// Segments of the settings text of this name, of which no record was told.
+fn open_segments<'a, R: Files + AllocGlobal>(
+    rt: &R,
+    settings: Option<&'a str>,
+) -> Result<Segments, Failure<'a>> {
+    let Some(name) = settings else {
+        return Ok(Segments::none());
+    };
+    let text = read_file(rt, name)?;
+    match settings_of(rt.alloc(), text.as_slice()) {
+        Ok(settings) => Ok(Segments::open(rt.alloc(), settings)?),
+        Err(fault) => Err(Failure::Run(of_settings(fault))),
     }
+}
+
+/// Prints the counts of each segment of the settings, and those of all places. Where these are the same it is done; else they differ.
+fn print_sums<'a, P: Printer<Fault = Failure<'a>>>(
+    printer: &mut P,
+    segments: &Segments,
+    all: Counts,
+) -> Result<(), Failure<'a>> {
+    segments.print(printer)?;
+    print_all(printer, all)?;
+    unless_same(all)
+}
+
+/// Prints the counts of all places.
+fn print_all<'a, P: Printer<Fault = Failure<'a>>>(
+    printer: &mut P,
+    counts: Counts,
+) -> Result<(), Failure<'a>>
+    ensures { OnOk result (P.prints printer.old (counts_text scopes.All counts) printer.new) }
+{
+    let lines = CountLines {
+        scope: Scope::All,
+        counts,
+    };
+    print_told(printer, &lines)
 }
 
 /// Compares what the run wrote at each port with what was captured there, whole frames, and answers the counts of all ports.
 fn compare_ports<'a, R: Files + Input + AllocGlobal + Print>(
     rt: &R,
     asked: Worked<'_, 'a>,
-    clock: Clock,
-    told: Told,
-    segments: &mut Segments,
-) -> Result<Counts, Failure<'a>>
-    requires sent { clock.sent_delay ≤ 2000000000000000000 }
-    requires received { clock.received_delay ≤ 2000000000000000000 }
+    told: Asked,
+    segments: Segments,
+) -> Result<(Segments, Counts), Failure<'a>>
+    requires sent { told.clock.sent_delay ≤ 2000000000000000000 }
+    requires received { told.clock.received_delay ≤ 2000000000000000000 }
 {
     let manner = Manner {
         sameness: Sameness::Whole,
         ignores_reserved: asked.ignores,
     };
+    let mut segments = segments;
     let mut all = Counts::none();
     for (index, name) in asked.ports.iter().enumerate() {
         let place = Place {
-            tap: tap_of(index),
+            tap: port_at(index),
             output: OutputFile::Port(index.saturating_add(1)),
             seen: *name,
         };
-        all = all.and(compare_place(rt, asked.folder, place, &manner, clock, told, segments)?);
+        let (behind, counts) = compare_place(rt, asked, place, &manner, told, segments)?;
+        segments = behind;
+        all = all.and(counts);
     }
-    Ok(all)
+    Ok((segments, all))
 }
 
 /// A place where a run writes.
@@ -135,30 +161,47 @@ struct Place<'a> {
 /// no capture. Each record is counted with its segment, too.
 fn compare_place<'a, R: Files + Input + AllocGlobal + Print>(
     rt: &R,
-    folder: &'a str,
+    asked: Worked<'_, 'a>,
     place: Place<'a>,
     manner: &Manner,
-    clock: Clock,
-    told: Told,
-    segments: &mut Segments,
-) -> Result<Counts, Failure<'a>>
-    requires sent { clock.sent_delay ≤ 2000000000000000000 }
-    requires received { clock.received_delay ≤ 2000000000000000000 }
+    told: Asked,
+    segments: Segments,
+) -> Result<(Segments, Counts), Failure<'a>>
+    requires sent { told.clock.sent_delay ≤ 2000000000000000000 }
+    requires received { told.clock.received_delay ≤ 2000000000000000000 }
 {
+    let mut output: StandardOutput<'_, 'a, R, R::File> = StandardOutput::new(rt, asked.shown);
     if place.seen == NO_CAPTURE {
-        print_none(rt, told.shown, place.tap)?;
-        return Ok(Counts::none());
+        print_told(&mut output, &NoCapture(place.tap))?;
+        return Ok((segments, Counts::none()));
     }
-    let pairing = Pairing {
-        at: Some(place.tap),
-        sent: folder,
-        received: place.seen,
-        clock,
-    };
-    let mut worked = open_written(rt, folder, place.output)?;
+    let mut worked = open_written(rt, asked.folder, place.output)?;
     let (_, mut seen) = open_seen(rt, place.seen)?;
+    if told.lists {
+        output = open_output(rt, asked.shown, asked.folder, place.tap)?;
+    }
+    let mut segments = segments;
     segments.stand_at(place.tap, manner);
-    compare_open(rt, &pairing, manner, told, &mut worked, &mut seen, segments)
+    let names = Names {
+        sent: asked.folder,
+        received: place.seen,
+    };
+    let (_, segments, counts) = compare_lent(
+        told.at(place.tap),
+        manner,
+        names,
+        &mut worked,
+        &mut seen,
+        (output, segments),
+    )?;
+    Ok((segments, counts))
+}
+
+/// The tap of the port behind so many others; that of port 255 behind 254 and more.
+fn port_at(index: usize) -> Tap
+    ensures { result ≡ Port (min (index + 1) 255) }
+{
+    Tap::Port(index.saturating_add(1).min(255) as u8)
 }
 
 /// Whether a run wrote into the folder, and for as many ports as captures are named.
@@ -224,12 +267,15 @@ fn count_of(names: &[&str], name: &str) -> usize {
     count
 }
 
-/// Prints that there is no capture of a place.
-fn print_none<R: AllocGlobal + Print>(
-    rt: &R,
-    shown: Shown,
-    tap: Tap,
-) -> Result<(), Failure<'static>> {
-    let text = format!(in rt.alloc(); "{tap}: no capture\n")?;
-    print_shown(rt, shown, text.as_bytes())
+/// The line of a place of which there is no capture.
+#[derive(Clone, Copy)]
+struct NoCapture(Tap);
+
+impl fmt::Display for NoCapture {
+    ghost output = { λ none. Some (tap_word none.0 ++ codes ": no capture\n") };
+
+    fn fmt<W: fmt::Write>(&self, f: &mut fmt::Formatter<W>) -> fmt::Result {
+        let tap = self.0;
+        write!(f, "{tap}: no capture\n")
+    }
 }

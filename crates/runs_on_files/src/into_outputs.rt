@@ -7,6 +7,7 @@ ghost use Rattle.pcap.specs.Block.{Block};
 ghost use Rattle.program_files.specs.Held.{AreHeld, handed_on, written};
 ghost use Rattle.runs_on_files.specs.Held.{IsRunInto};
 ghost use Rattle.stream_run.specs.Begun.{IsUnread};
+ghost use Rattle.stream_run.specs.Sieved.{taken_with};
 
 use crate::run_captures::{RunCaptures, failure_of};
 use program_faults::Failure;
@@ -42,7 +43,9 @@ pub(crate) fn run_into<'a, F: Read + Drop, I: Read + Drop, O: Write + Drop, S: S
     ensures handed_ports { IfOk result (λ files. All (λ (b : Block). b.held ≡ []) files.ports.items) }
     ensures handed_underlay { IfOk result (λ files. files.underlay.held ≡ []) }
     ensures handed_decisions { IfOk result (λ files. files.decisions.held ≡ []) }
-    ensures run { IfOk result (λ files. IsRunInto (S.taken sieve.old) job.entry.run.segments.now
+    ensures run { IfOk result (λ files. IsRunInto
+        (taken_with (S.taken sieve.old) (settings_in job.entry.run.settings_text.now) (changes_in job.entry.run.changes_text.now))
+        job.entry.run.segments.now
         (settings_in job.entry.run.settings_text.now) (changes_in job.entry.run.changes_text.now)
         captures.old.ports.items captures.old.underlay captures.new.ports.items captures.new.underlay
         (written job.entry.outputs.files)

@@ -7,6 +7,7 @@ ghost use Rattle.pcap.specs.Source.{Stream};
 ghost use Rattle.runs_on_files.specs.Files.{IsRunInFiles, IsRunOnFiles, segments_run};
 ghost use Rattle.runs_on_files.specs.declared.job.Scope.TheVariants.{Whole};
 ghost use Rattle.stream_run.specs.Begun.{IsUnread};
+ghost use Rattle.stream_run.specs.Sieved.{taken_with};
 
 use crate::done::{Done, done_on};
 use crate::in_folder::prepare_outputs;
@@ -53,7 +54,8 @@ pub fn run_on_files<'a, R: Files + Input + AllocGlobal, S: Sieve, T: Watch>(
     requires told { IfSome job.changes (λ t. changes_in job.texts.now.changes.items ≡ Ok t.now) }
     requires rising { IfSome job.changes (λ t. EachBehind IsRising [] t.now) }
     ensures run { IfOk result (λ _. IfSome job.entry.folder
-        (λ _. IsRunOnFiles R.File.remaining R.Reader.remaining R.File.contents (S.taken sieve.old)
+        (λ _. IsRunOnFiles R.File.remaining R.Reader.remaining R.File.contents
+        (taken_with (S.taken sieve.old) (settings_in job.entry.texts.now.settings.items) (changes_in job.entry.texts.now.changes.items))
         (segments_run job.entry.scope) (settings_in job.entry.texts.now.settings.items)
         (changes_in job.entry.texts.now.changes.items) job.entry.names.ports.now job.entry.names.underlay.now)) }
 {
@@ -82,7 +84,8 @@ fn run_on_names<'a, R: Files + Input + AllocGlobal, S: Sieve, T: Watch>(
     requires told { IfSome job.changes (λ t. changes_in job.texts.now.changes.items ≡ Ok t.now) }
     requires rising { IfSome job.changes (λ t. EachBehind IsRising [] t.now) }
     ensures run { IfOk result (λ _. IfSome job.entry.folder
-        (λ _. IsRunOnFiles R.File.remaining R.Reader.remaining R.File.contents (S.taken sieve.old)
+        (λ _. IsRunOnFiles R.File.remaining R.Reader.remaining R.File.contents
+        (taken_with (S.taken sieve.old) (settings_in job.entry.texts.now.settings.items) (changes_in job.entry.texts.now.changes.items))
         (segments_run job.entry.scope) (settings_in job.entry.texts.now.settings.items)
         (changes_in job.entry.texts.now.changes.items) job.entry.names.ports.now job.entry.names.underlay.now)) }
 {
@@ -117,7 +120,9 @@ fn run_on_opened<'a, R: Files + Input + AllocGlobal, S: Sieve, T: Watch>(
     requires ports { All IsUnread captures.ports.items }
     requires underlay { IsUnread captures.underlay }
     ensures run { IfOk result (λ _. IfSome job.entry.folder (λ _. (new_ports : List Stream) × (new_underlay : Stream)
-        × IsRunInFiles R.File.contents (S.taken sieve.old) (segments_run job.entry.scope)
+        × IsRunInFiles R.File.contents
+        (taken_with (S.taken sieve.old) (settings_in job.entry.texts.now.settings.items) (changes_in job.entry.texts.now.changes.items))
+        (segments_run job.entry.scope)
         (settings_in job.entry.texts.now.settings.items) (changes_in job.entry.texts.now.changes.items)
         captures.entry.ports.items captures.entry.underlay new_ports new_underlay)) }
 {
@@ -148,7 +153,8 @@ fn run_on_captures<'a, R: Files + Input + AllocGlobal, S: Sieve, T: Watch>(
     requires rising { IfSome job.changes (λ t. EachBehind IsRising [] t.now) }
     requires ports { All IsUnread captures.old.ports.items }
     requires underlay { IsUnread captures.old.underlay }
-    ensures run { IfOk result (λ _. IfSome job.entry.folder (λ _. IsRunInFiles R.File.contents (S.taken sieve.old)
+    ensures run { IfOk result (λ _. IfSome job.entry.folder (λ _. IsRunInFiles R.File.contents
+        (taken_with (S.taken sieve.old) (settings_in job.entry.texts.now.settings.items) (changes_in job.entry.texts.now.changes.items))
         (segments_run job.entry.scope)
         (settings_in job.entry.texts.now.settings.items) (changes_in job.entry.texts.now.changes.items)
         captures.old.ports.items captures.old.underlay captures.new.ports.items captures.new.underlay)) }
@@ -192,7 +198,9 @@ fn run_on_read<'a, R: Files + Input + AllocGlobal, S: Sieve, T: Watch>(
     requires rising { EachBehind IsRising [] read.changes.now }
     requires ports { All IsUnread captures.old.ports.items }
     requires underlay { IsUnread captures.old.underlay }
-    ensures run { IfOk result (λ _. IfSome read.entry.job.folder (λ _. IsRunInFiles R.File.contents (S.taken sieve.old)
+    ensures run { IfOk result (λ _. IfSome read.entry.job.folder (λ _. IsRunInFiles R.File.contents
+        (taken_with (S.taken sieve.old) (settings_in read.entry.job.texts.now.settings.items)
+        (changes_in read.entry.job.texts.now.changes.items))
         (segments_run read.entry.job.scope)
         (settings_in read.entry.job.texts.now.settings.items) (changes_in read.entry.job.texts.now.changes.items)
         captures.old.ports.items captures.old.underlay captures.new.ports.items captures.new.underlay)) }

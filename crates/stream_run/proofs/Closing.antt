@@ -22,7 +22,7 @@ use Rattle.stream_run.specs.Read.{StandsBehind}
 use Rattle.stream_run.specs.Sights.{Sight, sights}
 use Rattle.stream_run.specs.Stage.{Drains, Lead, StandAt, StandBetween, no_texts}
 use Rattle.stream_run.specs.Steps.{AreRead, AreReadBehind, AreReady, EndsInOrder, IsAt, IsRunOn, LeadsBehind, Run, StopInFront, changes_of, octets_at, run_at, source_at, texts_behind}
-use Rattle.stream_run.specs.Watched.{GoesOver, IsWatchedRun, SeesOver, state_behind}
+use Rattle.stream_run.specs.Watched.{IsWatchedRun, SeesOver, state_behind}
 use Rattle.stream_run.specs.declared.fault.StreamFault.{StreamFault}
 use Rattle.stream_run.specs.declared.fault.StreamFault.TheVariants as stream
 use Rattle.stream_run.specs.declared.fault.Target.{Target}
@@ -193,5 +193,5 @@ module _ (taken : List Event → List Event) (nothing : taken [] ≡ []) (segmen
 
       module _ {S : Type 0} (goes : S → Event → S → Type 0) (old_sieve new_sieve : S) where
         -- it was asked about all events
-        pub went_whole : (on : IsRunOn taken segments changes (run_at ports underlay turns state 0 d) run (Ok tt)) → FoldsTo goes old_sieve (on.es ++ on.more) new_sieve → GoesOver goes (Ok changes) texts text old_sieve new_sieve (Ok tt)
+        pub went_whole : (on : IsRunOn taken segments changes (run_at ports underlay turns state 0 d) run (Ok tt)) → FoldsTo goes old_sieve (on.es ++ on.more) new_sieve → FoldsTo goes old_sieve (whole_records changes texts text).events new_sieve
         went_whole on went = subst (λ l. FoldsTo goes old_sieve l new_sieve) (ap (λ l. on.es ++ l) on.part ∙ append-nil on.es ∙ sym (no_more on)) went

@@ -6,7 +6,6 @@ use Rattle.std.specs.Prelude.{take}
 use Rattle.std.specs.Io.KnownBytes.{Keeps}
 use Rattle.pcap.specs.Counts.{GoesOnBy}
 use Rattle.pcap.specs.Sink.{Drain, HandsOn, IsHandedOn}
-use Rattle.pcap.specs.Source.{Stream}
 use Rattle.segment_set.specs.Segments.{Segments}
 use Rattle.overlay.specs.declared.settings.change.Change.{Change}
 use Rattle.overlay.specs.declared.settings.change.TimedChange.{TimedChange}
@@ -167,21 +166,19 @@ module _ (segments : Segments) (changes : List Change) (number : ℕ) (s : State
         by false result lead = none result lead
 
 module _ (segments : Segments) {T : Type 0} (sees : T → Sight → T → Type 0) where
-  pub taken_and_handed : (changes : List TimedChange) (ports : List Stream) (underlay : Stream) (index done moment number : ℕ) (old new : State) (before mid behind : Drains) (old_watch new_watch : T)
-      (result : Result (Unit {0}) Target) → IsWatchedTake segments sees changes ports underlay index done moment number old new before mid old_watch new_watch (Ok tt)
+  pub taken_and_handed : (changes : List TimedChange) (e : Event) (number : ℕ) (old new : State) (before mid behind : Drains) (old_watch new_watch : T) (result : Result (Unit {0}) Target)
+      → IsWatchedTake segments sees changes e number old new before mid old_watch new_watch (Ok tt)
       → ((start : Drains) (o : Outputs) → StandAt start mid o → Lead start behind o o result)
-      → IsWatchedTake segments sees changes ports underlay index done moment number old new before behind old_watch new_watch result
-  taken_and_handed changes ports underlay index done moment number old new before mid behind old_watch new_watch result take handed = record {
+      → IsWatchedTake segments sees changes e number old new before behind old_watch new_watch result
+  taken_and_handed changes e number old new before mid behind old_watch new_watch result take handed = record {
     taken = record {
-      e = take.taken.e;
-      next = take.taken.next;
       state = take.taken.state;
       outputs = λ start o at.
-          let next = with_event_among segments (changes_of changes) number old o take.taken.e in
-          lead_behind start behind o next next result (front_event segments (changes_of changes) number old o take.taken.e) (record { ports = refl; underlay = refl }) (handed start next (take.taken.outputs start o at));
+          let next = with_event_among segments (changes_of changes) number old o e in
+          lead_behind start behind o next next result (front_event segments (changes_of changes) number old o e) (record { ports = refl; underlay = refl }) (handed start next (take.taken.outputs start o at));
       order = λ start o at.
-          let next = with_event_among segments (changes_of changes) number old o take.taken.e in
-          in_order segments (changes_of changes) number old o take.taken.e start behind result (handed start next (take.taken.outputs start o at));
+          let next = with_event_among segments (changes_of changes) number old o e in
+          in_order segments (changes_of changes) number old o e start behind result (handed start next (take.taken.outputs start o at));
     };
     seen = take.seen;
   }

@@ -8,6 +8,7 @@ use Rattle.timeline.specs.Words.{source_of}
 use Rattle.timeline.specs.declared.event.Event.{Event}
 use Rattle.timeline.specs.declared.source.Source.TheVariants as sources
 use Rattle.endpoint_core.specs.Among.{after_among}
+use Rattle.endpoint_core.specs.Settings.{Settings}
 use Rattle.endpoint_core.specs.Step.{State}
 use Rattle.capture_run.specs.Outputs.{Outputs, event_of}
 use Rattle.capture_run.specs.Among.{with_event_among, with_events_among}
@@ -19,7 +20,7 @@ use Rattle.pcap.specs.declared.text.record.RecordFault.{RecordFault}
 use Rattle.stream_run.specs.Amidst.{StandsInEvent}
 use Rattle.stream_run.specs.Coming.{coming, source_events}
 use Rattle.stream_run.specs.Read.{AreQuiet, GivesUpAt, failures_of}
-use Rattle.stream_run.specs.Sieved.{kept}
+use Rattle.stream_run.specs.Sieved.{Asked, GoesBy, asked, kept, taken_by}
 use Rattle.stream_run.specs.Sights.{Sight, sight_among, sights, state_among}
 use Rattle.stream_run.specs.Stage.{Drains, StandAt, StandBetween}
 use Rattle.stream_run.specs.Steps.{AreBehind, AreFirst, AreRead, AreReadBehind, AreReady, EndsIn, EndsNumbered, Fetches, IsAt, IsNextEvent, IsRunOn, IsStep, Run, StopInFront, changes_of, most_events, texts_behind}
@@ -398,7 +399,20 @@ module _ (taken : List Event → List Event) (segments : Segments) where
     ready = tt;
     told = λ texts text read. goes_no_further changes old now has texts text read (Err (stream.Run faults.OutOfMemory)) tt;
   }
-  -- ---- with what is seen
+
+-- of none a sieve takes none, whatever is in force
+pub none_by : {S : Type 0} (taken : S → Settings → List TimedChange → List Event → List Event) → ((s : S) (settings : Settings) (changes : List TimedChange) → taken s settings changes [] ≡ [])
+    → (changes : List TimedChange) (a : Asked S) → taken_by taken changes a [] ≡ []
+none_by taken none changes a = none a.sieve a.settings changes
+
+-- a run of a sieve that was asked at the same settings
+pub with_settings : (segments : Segments) {S T : Type 0} (taken : S → Settings → List TimedChange → List Event → List Event) (goes : S → Settings → List TimedChange → Event → S → Type 0) (sees : T → Sight → T → Type 0) (changes : List TimedChange) (old new : Run) (sieve : S) (settings same : Settings) (new_sieve : Asked S)
+    (old_watch new_watch : T) (result : Result (Unit {0}) StreamFault) → settings ≡ same → IsSievedRun segments (taken_by taken changes) (GoesBy goes changes) sees changes old new (asked sieve settings) new_sieve old_watch new_watch result
+    → IsSievedRun segments (taken_by taken changes) (GoesBy goes changes) sees changes old new (asked sieve same) new_sieve old_watch new_watch result
+with_settings segments taken goes sees changes old new sieve settings same new_sieve old_watch new_watch result is run =
+    subst (λ (x : Settings). IsSievedRun segments (taken_by taken changes) (GoesBy goes changes) sees changes old new (asked sieve x) new_sieve old_watch new_watch result) is run
+
+-- ---- with what is seen
 
 module _ (segments : Segments) {S T : Type 0} (taken : S → List Event → List Event) (goes : S → Event → S → Type 0) (sees : T → Sight → T → Type 0) where
   -- nothing behind them

@@ -1,16 +1,17 @@
 -- What is seen of a run by whoever looks on. It states no standard.
 --     Due      an event that comes, and how the endpoint stands before it
---     IsBrought      the frame that it brings to a segment
+--     IsBrought, CanBeTaken      the frame that it brings to a segment
 --     Sight      the same, and what the event is answered, or that it isn't told
 --     sights      those of events one after another
-use Rattle.std.specs.Prelude.{◌≡◌, ℕ, ◌+◌, ◌≤◌, if◌then◌else◌, List, [], ◌∷◌, length, Option, Some, None, Result}
+use Rattle.std.specs.Prelude.{◌≡◌, ℕ, ◌+◌, ◌≤◌, if◌then◌else◌, true, List, [], ◌∷◌, length, Option, Some, None, IsSome, Result, IfOk}
 use Rattle.wire.specs.declared.ether.reason.Refused.{Refused}
 use Rattle.overlay.specs.declared.settings.change.Change.{Change}
 use Rattle.timeline.specs.declared.event.Event.{Event}
 use Rattle.timeline.specs.declared.event.Happening.{Happening}
 use Rattle.timeline.specs.declared.event.Happening.TheVariants as happenings
 use Rattle.timeline.specs.declared.source.Tap.TheVariants.{Port, Underlay}
-use Rattle.endpoint_core.specs.Settings.{Settings}
+use Rattle.endpoint_core.specs.Settings.{Settings, segment_at}
+use Rattle.endpoint_core.specs.Sound.{is_reached}
 use Rattle.endpoint_core.specs.Arrival.{came_at, came_by}
 use Rattle.endpoint_core.specs.Arrival.{Arrival}
 use Rattle.endpoint_core.specs.Step.{Answer, State, answer}
@@ -36,6 +37,13 @@ IsBrought S (happenings.Change index) came = Unit {0}
 IsBrought S (happenings.Record (Port port) captured) came =
     (1 ≤ port) × (port ≤ length S.ports.ports) × (came ≡ came_at S.ports S.overlay port captured.original captured.octets)
 IsBrought S (happenings.Record Underlay captured) came = came ≡ came_by S.overlay captured.original captured.octets
+
+-- what came to a segment, or to none, can be taken there: the segment is there, the frame is no longer than any, and where it
+-- came from is reached in the segment
+pub record CanBeTaken (S : Settings) (came : Result Arrival Refused) : Type 0 where
+  pub there : IfOk came (λ x. IsSome (segment_at S x.vid))
+  pub short : IfOk came (λ x. length x.frame.body ≤ 65549)
+  pub reached : IfOk came (λ x. is_reached S.overlay x.vid x.from ≡ true)
 
 -- an event that came, and what it was answered
 pub record Sight : Type 0 where

@@ -18,8 +18,7 @@ use Rattle.timeline.specs.declared.event.Event.{Event}
 use Rattle.timeline.specs.declared.event.Happening.TheVariants as happenings
 use Rattle.timeline.specs.declared.source.Tap.{Tap}
 use Rattle.timeline.specs.declared.source.Tap.TheVariants as taps
-use Rattle.endpoint_core.specs.Among.{after_among, is_told}
-use Rattle.endpoint_core.specs.Event.{Event as Asked}
+use Rattle.endpoint_core.specs.Among.{after_among}
 use Rattle.endpoint_core.specs.Step.{State, answer}
 use Rattle.capture_run.specs.Outputs.{Outputs, event_of, named_by}
 use Rattle.capture_run.specs.Among.{with_event_among, with_events_among}
@@ -28,8 +27,7 @@ use Rattle.stream_run.specs.Amidst.{PutsInOrder, StandsInEvent, StepsInOrder}
 use Rattle.stream_run.specs.Coming.{EndBefore, IsRecordBefore, NoneBehind, coming, records_among}
 use Rattle.stream_run.specs.Fault.{fault_of}
 use Rattle.stream_run.specs.Fetched.{IsFetch, IsMoment}
-use Rattle.capture_run.specs.Writing.{with_input}
-use Rattle.stream_run.specs.Sights.{Sight, answered, due, state_among, untold}
+use Rattle.stream_run.specs.Sights.{state_among}
 use Rattle.stream_run.specs.Sieved.{kept}
 use Rattle.stream_run.specs.Read.{IsFaulty, IsRead, ReadsWith}
 use Rattle.stream_run.specs.Stage.{Drains, FailedAt, Lead, StandAt, StandBetween}
@@ -165,26 +163,15 @@ IsNextEvent ports underlay index done moment e =
 abbrev pub changes_of : List TimedChange → List Change
 changes_of changes = map (λ (c : TimedChange). c.change) changes
 
--- the event was taken by the endpoint, and what comes of it was put to the outputs, where it is told to these segments
-pub record IsTaken (segments : Segments) (changes : List TimedChange) (ports : List Stream) (underlay : Stream)
-    (index done moment number : ℕ) (old new : State) (before behind : Drains) (result : Result (Unit {0}) Target) : Type 0 where
-  pub e : Event
-  pub next : IsNextEvent ports underlay index done moment e
+-- an event was taken by the endpoint, and what comes of it was put to the outputs, where it is told to these segments
+pub record IsTaken (segments : Segments) (changes : List TimedChange) (e : Event) (number : ℕ) (old new : State)
+    (before behind : Drains) (result : Result (Unit {0}) Target) : Type 0 where
   pub state : new ≡ after_among segments old (event_of (changes_of changes) e)
   pub outputs : (start : Drains) (o : Outputs) → StandAt start before o
       → Lead start behind o (with_event_among segments (changes_of changes) number old o e) result
   pub order : (start : Drains) (o : Outputs) → StandAt start before o
       → PutsInOrder start behind number (named_by (changes_of changes) e.happening) o e
       (answer old (event_of (changes_of changes) e)) result
-
--- what comes of an event that names this segment, where it is told
-abbrev pub with_input_among : Segments → ℕ → Option ℕ → State → Outputs → Event → Asked → Outputs
-with_input_among segments number named s o e asked = if is_told segments s asked then with_input number named o e (answer s asked) else o
-
--- what is seen of it
-abbrev pub seen_among : Segments → State → ℕ → Event → Asked → Sight
-seen_among segments s number e asked = if is_told segments s asked then answered (due s number e) (answer s asked) else untold
-    (due s number e)
 
 -- ---- fetched
 

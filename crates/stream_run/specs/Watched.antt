@@ -12,6 +12,7 @@ use Rattle.overlay_config.specs.Fault.{Meaning}
 use Rattle.overlay_config.specs.Settings.{Settings}
 use Rattle.overlay.specs.declared.settings.change.TimedChange.{TimedChange}
 use Rattle.endpoint_core.specs.Opened.{settings_told}
+use Rattle.endpoint_core.specs.Settings.{Settings as InForce}
 use Rattle.timeline.specs.declared.event.Event.{Event}
 use Rattle.timeline.specs.declared.timeline.Cut.{Cut}
 use Rattle.timeline.specs.declared.source.Tap.{Tap}
@@ -23,7 +24,7 @@ use Rattle.stream_run.specs.Amidst.{PutsInOrder}
 use Rattle.stream_run.specs.Left.{texts_of}
 use Rattle.stream_run.specs.Over.{LacksMemory, StandsAmong, StandsBefore, StandsSomewhere, whole_records}
 use Rattle.stream_run.specs.Sights.{Sight, sight_among, sights, state_among}
-use Rattle.stream_run.specs.Sieved.{kept}
+use Rattle.stream_run.specs.Sieved.{GoesBy, asked, kept}
 use Rattle.stream_run.specs.Stage.{Drains, Events, Lead, Stage, StandAt, StandBetween, events_at, no_texts}
 use Rattle.stream_run.specs.Steps.{IsAt, IsNextEvent, IsRunOn, IsStep, IsTaken, Run, changes_of}
 use Rattle.stream_run.specs.Fault.{stopped}
@@ -43,10 +44,10 @@ state_behind segments changes s es = state_among segments (changes_of changes) s
 
 module _ (segments : Segments) {T : Type 0} (sees : T → Sight → T → Type 0) where
   -- the event was taken; it was seen before, and where it is told, its answer heard
-  pub record IsWatchedTake (changes : List TimedChange) (ports : List Stream) (underlay : Stream) (index done moment number : ℕ)
+  pub record IsWatchedTake (changes : List TimedChange) (e : Event) (number : ℕ)
       (old new : State) (before behind : Drains) (old_watch new_watch : T) (result : Result (Unit {0}) Target) : Type 0 where
-    pub taken : IsTaken segments changes ports underlay index done moment number old new before behind result
-    pub seen : sees old_watch (sight_among segments (changes_of changes) old number taken.e) new_watch
+    pub taken : IsTaken segments changes e number old new before behind result
+    pub seen : sees old_watch (sight_among segments (changes_of changes) old number e) new_watch
 
 module _ (segments : Segments) {S T : Type 0} (taken : S → List Event → List Event) (goes : S → Event → S → Type 0)
     (sees : T → Sight → T → Type 0) where
@@ -191,8 +192,12 @@ module _ (taken : List Event → List Event) (segments : Segments) {T : Type 0} 
   IsWatchedOverSieved (Ok s) (Err fault) texts text old new old_watch new_watch result = new_watch ≡ old_watch
   IsWatchedOverSieved (Err fault) c texts text old new old_watch new_watch result = new_watch ≡ old_watch
 
-module _ {S : Type 0} (goes : S → Event → S → Type 0) where
-  -- a sieve at the end of a run: it was asked about each event, in order; where the run stops at a fault, nothing is said of it
-  abbrev pub GoesOver : Meaning (List TimedChange) → List (Vec ℕ Global) → List ℕ → S → S → Result (Unit {0}) StreamFault → Type 0
-  GoesOver (Ok changes) texts text old new (Ok x) = FoldsTo goes old (whole_records changes texts text).events new
-  GoesOver c texts text old new result = ⊤
+module _ {S : Type 0} (goes : S → InForce → List TimedChange → Event → S → Type 0) where
+  -- a sieve at the end of a run: it was asked about each event, in order, at the settings in force before it; where the run stops
+  -- at a fault, nothing is said of it
+  abbrev pub GoesOver : Meaning Settings → Meaning (List TimedChange) → List (Vec ℕ Global) → List ℕ → S → S
+      → Result (Unit {0}) StreamFault → Type 0
+  GoesOver (Ok s) (Ok changes) texts text old new (Ok x) =
+      (last : InForce)
+      × FoldsTo (GoesBy goes changes) (asked old (settings_told s)) (whole_records changes texts text).events (asked new last)
+  GoesOver s c texts text old new result = ⊤

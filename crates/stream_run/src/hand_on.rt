@@ -10,25 +10,19 @@
 //! whenever a run waits, everything that was decided stands outside, and a pipe that runs full costs this once for each 64 KiB.
 //! Where events may be left out, all goes on behind each that is taken in, since behind one that is left out a write that fails
 //! could not be told as its own.
-ghost use Rattle.std.specs.Prelude.{◌≡◌, ◌≢◌, ◌≤◌, ◌<◌, ◌+◌, ◌^◌, ℕ, [], false, not, true, IsSome, OnOk, Some, length, slice_index_or};
-ghost use Rattle.pcap.specs.Record.{last_moment};
+ghost use Rattle.std.specs.Prelude.{◌≡◌, ◌≢◌, ◌≤◌, ◌<◌, ◌+◌, ℕ, [], false, not, true, OnOk, length, slice_index_or};
 ghost use Rattle.pcap.specs.Sink.{Drain};
-ghost use Rattle.pcap.specs.Source.{holds_next, lent};
+ghost use Rattle.pcap.specs.Source.{holds_next};
 ghost use Rattle.timeline.specs.Drains.{PortsOut};
 ghost use Rattle.timeline.specs.declared.source.Tap.{Tap as ATap};
-ghost use Rattle.endpoint_core.specs.Kept.{state_of};
 ghost use Rattle.capture_run.specs.Outputs.{Outputs as Texts};
 ghost use Rattle.stream_run.specs.Stage.{Drains, Lead, StandAt};
-ghost use Rattle.stream_run.specs.Steps.{IsAt, moment_at, source_at};
+ghost use Rattle.stream_run.specs.Steps.{IsAt, source_at};
 ghost use Rattle.stream_run.specs.Waiting.{AllOut, IsOutBefore, IsOutOrAll};
-ghost use Rattle.stream_run.specs.Watched.{IsWatchedTake};
 
 use crate::captures::Captures;
 use crate::fault::Target;
 use crate::fetch::takes_read;
-use crate::part::{Coming, Taker};
-use crate::take::take_at;
-use crate::watch::Watch;
 use pcap::stream::{Input, Output};
 use timeline::RunOutputs;
 
@@ -145,41 +139,22 @@ fn has_to_hand_on<R: Input, W: Output>(
     may_wait_behind(captures, index, takes_all)
 }
 
-/// Takes the next event as [`take_at`] does, and hands on what is held back where it has to go on.
+/// Hands on what is held back behind an event of the source with this index, where it has to go on: the next line has at most so
+/// many octets.
 #[inline(always)]
-pub fn take_and_hand_on<R: Input, W: Output, T: Watch>(
-    coming: Coming,
+pub fn hand_on_behind<R: Input, W: Output>(
     captures: &Captures<R>,
     outputs: &mut RunOutputs<W>,
-    taker: &mut Taker,
+    most_of_a_line: usize,
+    index: usize,
     takes_all: bool,
-    watch: &mut T,
 ) -> Result<(), Target>
-    requires time { (state_of taker.old.endpoint).moment ≤ coming.next.moment }
-    requires moment { coming.next.moment ≤ last_moment }
-    requires count { coming.next.done + 1 < 2 ^ 64 }
-    requires index { coming.next.index ≤ length captures.now.ports.items + 1 }
-    requires few { length captures.now.ports.items ≤ 255 }
-    requires known { length captures.now.ports.items ≡ length (state_of taker.old.endpoint).bridges.settings.ports.ports }
-    requires change { coming.next.index ≡ 0 → moment_at coming.part.now.changes.now coming.next.done ≡ Some coming.next.moment }
-    requires lent { (place : ATap) → IsAt (length captures.now.ports.items) coming.next.index place
-        → IsSome (lent (source_at captures.now.ports.items captures.now.underlay place).standing) }
-    ensures taken { IsWatchedTake coming.entry.part.now.segments.now T.sees coming.entry.part.now.changes.now
-        captures.now.ports.items captures.now.underlay coming.entry.next.index coming.entry.next.done coming.entry.next.moment
-        taker.old.scratch.number (state_of taker.old.endpoint) (state_of taker.new.endpoint)
-        outputs.old outputs.new watch.old watch.new result }
-    ensures number { taker.new.scratch.number ≡ taker.old.scratch.number }
-    ensures turns { taker.new.turns ≡ taker.old.turns }
-    ensures before { OnOk result (IsOutBefore captures.now.may_wait captures.now.ports.items captures.now.underlay
-        coming.entry.next.index outputs.new) }
+    requires index { index ≤ length captures.now.ports.items + 1 }
+    ensures handed { (start : Drains) (o : Texts) → StandAt start outputs.old o → Lead start outputs.new o o result }
+    ensures before { OnOk result (IsOutBefore captures.now.may_wait captures.now.ports.items captures.now.underlay index outputs.new) }
     ensures behind { OnOk result (IsOutOrAll takes_all captures.now.may_wait outputs.new) }
 {
-    let Coming { part, next } = coming;
-    if let Err(target) = take_at(part, captures, outputs, taker, next, watch) {
-        return Err(target);
-    }
-    let most = taker.most_of_a_line;
-    if has_to_hand_on(captures, outputs, most, next.index, takes_all) {
+    if has_to_hand_on(captures, outputs, most_of_a_line, index, takes_all) {
         return hand_on_all(outputs);
     }
     Ok(())

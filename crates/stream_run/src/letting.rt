@@ -1,19 +1,26 @@
 //! The next event, as a sieve takes it in or leaves it out.
-ghost use Rattle.std.specs.Prelude.{◌≡◌, ◌≤◌, ◌<◌, ◌+◌, ◌^◌, IsSome, OnOk, Some, length};
+ghost use Rattle.std.specs.Prelude.{◌≡◌, ◌≤◌, ◌<◌, ◌+◌, ◌^◌, ℕ, IsSome, OnOk, Some, length};
 ghost use Rattle.pcap.specs.Record.{Record as ARecord, last_moment};
 ghost use Rattle.pcap.specs.Source.{lent};
+ghost use Rattle.timeline.specs.Captured.{Captured as ACaptured};
+ghost use Rattle.timeline.specs.declared.event.Happening.TheVariants.{Record as Recorded};
 ghost use Rattle.timeline.specs.declared.source.Tap.{Tap as ATap};
+ghost use Rattle.timeline.specs.declared.source.Tap.TheVariants.{Port as AtPort};
 ghost use Rattle.endpoint_core.specs.Kept.{state_of};
+ghost use Rattle.stream_run.specs.Sieved.{GoesBy, asked, taken_by};
+ghost use Rattle.stream_run.specs.Sights.{CanBeTaken, IsBrought};
 ghost use Rattle.stream_run.specs.Steps.{IsAt, IsNextEvent, moment_at, record_event, source_at};
 ghost use Rattle.stream_run.specs.Waiting.{IsOutBefore, IsOutOrAll};
 ghost use Rattle.stream_run.specs.Watched.{IsSieved};
 
 use crate::captures::Captures;
 use crate::fault::Target;
-use crate::hand_on::take_and_hand_on;
+use crate::hand_on::hand_on_behind;
 use crate::part::{Coming, Next, Taker};
 use crate::sieve::Sieve;
+use crate::take::take_event;
 use crate::watch::Watch;
+use endpoint_core::{Endpoint, Forwarding, nothing_came};
 use pcap::stream::{Input, Output, Source};
 use timeline::{Captured, Event, Happening, RunOutputs, Tap};
 
@@ -38,7 +45,7 @@ fn event_of<R: Input>(source: &Source<R>, tap: Tap, next: Next) -> Event<'_>
     }
 }
 
-/// The next event of a source, as [`take_and_hand_on`] takes it: the changes, the ports, the underlay.
+/// The next event of a source: the changes, the ports, the underlay.
 #[inline(always)]
 fn next_event<R: Input>(captures: &Captures<R>, next: Next) -> Event<'_>
     requires count { next.done + 1 < 2 ^ 64 }
@@ -62,8 +69,28 @@ fn next_event<R: Input>(captures: &Captures<R>, next: Next) -> Event<'_>
     event_of(&captures.underlay, Tap::Underlay, next)
 }
 
-/// Asks the sieve about the next event. Where it takes it in, the event is numbered and taken as [`take_and_hand_on`] does it;
-/// else nothing is done.
+/// Sets a forwarding to what a record brings to a segment, or to why it brings nothing. A change leaves it.
+#[inline(always)]
+fn bring<'a>(endpoint: &Endpoint, event: &Event<'a>, came: &mut Forwarding<'a>)
+    requires port { (port : ℕ) (captured : ACaptured) → event.now.happening ≡ Recorded (AtPort port) captured
+        → (1 ≤ port) × (port ≤ length (state_of endpoint.now).bridges.settings.ports.ports) }
+    requires can { CanBeTaken (state_of endpoint.now).bridges.settings came.old }
+    ensures brought { IsBrought (state_of endpoint.now).bridges.settings event.now.happening came.new }
+    ensures can { CanBeTaken (state_of endpoint.now).bridges.settings came.new }
+{
+    match &event.happening {
+        Happening::Change(_) => {}
+        Happening::Record(Tap::Port(port), captured) => {
+            endpoint.bring_frame(*port, captured.original, captured.octets, came);
+        }
+        Happening::Record(Tap::Underlay, captured) => {
+            endpoint.bring_packet(captured.original, captured.octets, came);
+        }
+    }
+}
+
+/// Asks the sieve about the next event, with what that brings to a segment. Where it takes it in, the event is numbered and taken
+/// as [`take_event`] does it, and what is held back is handed on where it has to; else nothing is done.
 pub fn let_in<R: Input, W: Output, S: Sieve, T: Watch>(
     coming: Coming,
     captures: &Captures<R>,
@@ -86,17 +113,26 @@ pub fn let_in<R: Input, W: Output, S: Sieve, T: Watch>(
     ensures before { OnOk result (IsOutBefore captures.now.may_wait captures.now.ports.items captures.now.underlay
         coming.entry.next.index outputs.new) }
     ensures behind { OnOk result (IsOutOrAll (S.all sieve.new) captures.now.may_wait outputs.new) }
-    ensures sieved { IsSieved coming.entry.part.now.segments.now S.taken S.goes T.sees coming.entry.part.now.changes.now
+    ensures sieved { IsSieved coming.entry.part.now.segments.now (taken_by S.taken coming.entry.part.now.changes.now)
+        (GoesBy S.goes coming.entry.part.now.changes.now) T.sees coming.entry.part.now.changes.now
         captures.now.ports.items captures.now.underlay coming.entry.next.index coming.entry.next.done coming.entry.next.moment
         taker.old.scratch.number taker.new.scratch.number
-        (state_of taker.old.endpoint) (state_of taker.new.endpoint) outputs.old outputs.new sieve.old sieve.new watch.old watch.new result }
+        (state_of taker.old.endpoint) (state_of taker.new.endpoint) outputs.old outputs.new
+        (asked sieve.old (state_of taker.old.endpoint).bridges.settings)
+        (asked sieve.new (state_of taker.new.endpoint).bridges.settings) watch.old watch.new result }
     ensures turns { taker.new.turns ≡ taker.old.turns }
 {
-    let event = next_event(captures, coming.next);
-    if !sieve.takes(&event) {
+    let Coming { part, next } = coming;
+    let event = next_event(captures, next);
+    let mut came = nothing_came();
+    bring(&taker.endpoint, &event, &mut came);
+    if !sieve.takes(&taker.endpoint, &event, &came) {
         return Ok(());
     }
     taker.scratch.number.add_one();
-    let takes_all = sieve.takes_all();
-    take_and_hand_on(coming, captures, outputs, taker, takes_all, watch)
+    if let Err(target) = take_event(part, &event, &mut came, outputs, taker, watch) {
+        return Err(target);
+    }
+    let most = taker.most_of_a_line;
+    hand_on_behind(captures, outputs, most, next.index, sieve.takes_all())
 }

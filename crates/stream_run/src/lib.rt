@@ -62,8 +62,9 @@
 //! - A run answers all this of what a `Sieve` takes in. It is asked about each event, and what it leaves out is read as
 //!   ever, so each fault and how far the captures are read are as without it; but texts, sights, numbers and the
 //!   endpoint's state are those of the events that it took in. Ok comes only where `run` of all events tells outputs.
-//!   Which events those are the sieve says itself, by a function of lists (`taken`), and after Ok it is told what it
-//!   was asked (`goes`). `TakesAll` takes all.
+//!   Which events those are the sieve says itself, by a function of the settings, the changes and lists of events
+//!   (`taken`), and after Ok it is told what it was asked (`goes`). So that no record is read for its segment twice, it is
+//!   lent the run's endpoint, and what the event brings there. `TakesAll` takes all.
 //! - `put_events` goes through the events of all whole records, merged by moment (of one moment the changes, the ports
 //!   rising, the underlay), and after Ok each capture was read to its end without a fault.
 //! - A record that is fetched is the next one that the capture has: `fetch_at`. Where a read may wait

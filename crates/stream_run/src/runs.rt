@@ -6,6 +6,7 @@ ghost use Rattle.overlay_config.specs.Settings.{settings_in};
 ghost use Rattle.overlay.specs.Rules.{EachBehind};
 ghost use Rattle.overlay.specs.Settings.{Settings};
 ghost use Rattle.endpoint_core.specs.Kept.{state_of};
+ghost use Rattle.endpoint_core.specs.Opened.{settings_told};
 ghost use Rattle.stream_run.specs.Begun.{IsUnread, first_turns};
 ghost use Rattle.stream_run.specs.Done.{IsDone};
 ghost use Rattle.stream_run.specs.Left.{AnswersSieved, CanBegin, IsOpenedWith, WritesWith, ends};
@@ -71,24 +72,30 @@ pub fn run<R: Input, W: Output, S: Sieve, T: Watch>(
     requires sinks { length outputs.old.ports ≡ length captures.old.ports.items }
     requires new_ports { All IsUnread captures.old.ports.items }
     requires new_underlay { IsUnread captures.old.underlay }
-    ensures run { AnswersSieved (S.taken sieve.old) job.entry.segments.now (settings_in job.entry.settings_text.now)
+    ensures run { AnswersSieved (S.taken sieve.old (settings_told job.entry.settings) job.entry.changes.now)
+        job.entry.segments.now (settings_in job.entry.settings_text.now)
         (changes_in job.entry.changes_text.now)
         (ends captures.old.ports.items captures.old.underlay outputs.old)
         (ends captures.new.ports.items captures.new.underlay outputs.new) result }
     ensures over { (texts : List (AVec ℕ AGlobal)) (text : List ℕ) → Tells captures.old.ports.items captures.old.underlay texts text
-        → IsRunOverSieved (S.taken sieve.old) job.entry.segments.now (settings_in job.entry.settings_text.now)
+        → IsRunOverSieved (S.taken sieve.old (settings_told job.entry.settings) job.entry.changes.now)
+        job.entry.segments.now (settings_in job.entry.settings_text.now)
         (changes_in job.entry.changes_text.now) texts text outputs.old outputs.new result }
     ensures reached { (texts : List (AVec ℕ AGlobal)) (text : List ℕ) → Tells captures.old.ports.items captures.old.underlay texts text
-        → IsReachedOverSieved (S.taken sieve.old) job.entry.segments.now (settings_in job.entry.settings_text.now)
+        → IsReachedOverSieved (S.taken sieve.old (settings_told job.entry.settings) job.entry.changes.now)
+        job.entry.segments.now (settings_in job.entry.settings_text.now)
         (changes_in job.entry.changes_text.now) texts text outputs.old outputs.new captures.new.ports.items
         captures.new.underlay result }
-    ensures shown { IsShownSieved (S.taken sieve.old) job.entry.segments.now T.sees T.ends (settings_in job.entry.settings_text.now)
+    ensures shown { IsShownSieved (S.taken sieve.old (settings_told job.entry.settings) job.entry.changes.now)
+        job.entry.segments.now T.sees T.ends (settings_in job.entry.settings_text.now)
         (changes_in job.entry.changes_text.now) captures.old.ports.items outputs.old outputs.new watch.old watch.new result }
     ensures watched { (texts : List (AVec ℕ AGlobal)) (text : List ℕ) → Tells captures.old.ports.items captures.old.underlay texts text
-        → IsWatchedOverSieved (S.taken sieve.old) job.entry.segments.now T.sees T.ends (settings_in job.entry.settings_text.now)
+        → IsWatchedOverSieved (S.taken sieve.old (settings_told job.entry.settings) job.entry.changes.now)
+        job.entry.segments.now T.sees T.ends (settings_in job.entry.settings_text.now)
         (changes_in job.entry.changes_text.now) texts text outputs.old outputs.new watch.old watch.new result }
     ensures sieved { (texts : List (AVec ℕ AGlobal)) (text : List ℕ) → Tells captures.old.ports.items captures.old.underlay texts text
-        → GoesOver S.goes (changes_in job.entry.changes_text.now) texts text sieve.old sieve.new result }
+        → GoesOver S.goes (settings_in job.entry.settings_text.now) (changes_in job.entry.changes_text.now) texts text
+        sieve.old sieve.new result }
     ensures many { length captures.new.ports.items ≡ length captures.old.ports.items }
     ensures reads { ReadsWith captures.old.ports.items captures.old.underlay captures.new.ports.items captures.new.underlay result }
     ensures waits { AllOut outputs.old → IsOutAtRead captures.old.may_wait outputs.new result }

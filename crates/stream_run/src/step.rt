@@ -4,6 +4,7 @@
 //! years.
 ghost use Rattle.std.specs.Prelude.{◌≡◌, ◌≤◌, ◌<◌, ◌+◌, ◌-◌, ◌^◌, OnErr, OnOk, length, slice_index_or};
 ghost use Rattle.endpoint_core.specs.Kept.{state_of};
+ghost use Rattle.stream_run.specs.Sieved.{GoesBy, asked, taken_by};
 ghost use Rattle.stream_run.specs.Steps.{AreReady, run_at};
 ghost use Rattle.stream_run.specs.Turns.{IsFirst, first_of};
 ghost use Rattle.stream_run.specs.declared.turn.Turn.{Turn as Stands};
@@ -43,12 +44,14 @@ fn put_first<R: Input, W: Output, S: Sieve, T: Watch>(
     ensures out { OnOk result (IsOutOrAll (S.all sieve.new) captures.new.may_wait outputs.new) }
     ensures waits { IsOutAtHalt captures.old.may_wait outputs.new result }
     ensures may_wait { captures.new.may_wait ≡ captures.old.may_wait }
-    ensures step { IsPut coming.entry.part.now.segments.now S.taken S.goes T.sees coming.entry.part.now.changes.now
+    ensures step { IsPut coming.entry.part.now.segments.now (taken_by S.taken coming.entry.part.now.changes.now)
+        (GoesBy S.goes coming.entry.part.now.changes.now) T.sees coming.entry.part.now.changes.now
         (run_at captures.old.ports.items captures.old.underlay taker.old.turns.items (state_of taker.old.endpoint)
         taker.old.scratch.number outputs.old)
         (run_at captures.new.ports.items captures.new.underlay taker.new.turns.items (state_of taker.new.endpoint)
         taker.new.scratch.number outputs.new)
-        (first_of coming.entry.next) sieve.old sieve.new watch.old watch.new result }
+        (first_of coming.entry.next) (asked sieve.old (state_of taker.old.endpoint).bridges.settings)
+        (asked sieve.new (state_of taker.new.endpoint).bridges.settings) watch.old watch.new result }
     ensures many { length captures.new.ports.items ≡ length captures.old.ports.items }
     ensures turns { OnErr result (taker.new.turns ≡ taker.old.turns) }
 {
@@ -87,11 +90,13 @@ pub fn put_events<R: Input, W: Output, S: Sieve, T: Watch>(
     requires out { IsOutOrAll (S.all sieve.old) captures.old.may_wait outputs.old }
     requires ready { AreReady part.now.changes.now 0
         (run_at captures.old.ports.items captures.old.underlay taker.old.turns.items (state_of taker.old.endpoint) 0 outputs.old) }
-    ensures run { IsSievedRun part.now.segments.now S.taken S.goes T.sees part.now.changes.now
+    ensures run { IsSievedRun part.now.segments.now (taken_by S.taken part.now.changes.now) (GoesBy S.goes part.now.changes.now)
+        T.sees part.now.changes.now
         (run_at captures.old.ports.items captures.old.underlay taker.old.turns.items (state_of taker.old.endpoint) 0 outputs.old)
         (run_at captures.new.ports.items captures.new.underlay taker.new.turns.items (state_of taker.new.endpoint)
         taker.new.scratch.number outputs.new)
-        sieve.old sieve.new watch.old watch.new result }
+        (asked sieve.old (state_of taker.old.endpoint).bridges.settings)
+        (asked sieve.new (state_of taker.new.endpoint).bridges.settings) watch.old watch.new result }
     ensures waits { IsOutAtRead captures.old.may_wait outputs.new result }
     ensures many { length captures.new.ports.items ≡ length captures.old.ports.items }
 {

@@ -1,9 +1,10 @@
 //! Captures that have both directions: what the switch itself sent is left out of them.
-use both_ways::{BothWays, WITHIN, sieve_of};
+ghost use Rattle.std.specs.Prelude.{◌≡◌, IfOk, is_some};
+
+use both_ways::{BothWays, WITHIN};
 use command_line::time_of;
 use program_faults::Failure;
 use run_counts::{Flows, RunCounts};
-use runs_on_files::Texts;
 use std::alloc::{AllocError, Global};
 use stream_run::TakesAll;
 use text_calls::tap_of;
@@ -22,14 +23,17 @@ pub fn within_of<'a>(both: bool, within: Option<&'a str>) -> Result<Option<u64>,
     }
 }
 
-/// What leaves that out of a run with these texts, where it is asked for, and the texts are read.
-pub fn sieve_for(
-    alloc: Global,
-    texts: &Texts,
-    within: Option<u64>,
-) -> Result<Option<BothWays>, AllocError> {
-    let (settings, changes) = (texts.settings.as_slice(), texts.changes.as_slice());
-    sieve_of(alloc, settings, changes, within)
+/// What leaves that out of a run, where it is asked for.
+pub fn sieve_for(alloc: Global, within: Option<u64>) -> Result<Option<BothWays>, AllocError>
+    ensures { IfOk result (λ sieve. is_some sieve ≡ is_some within) }
+{
+    match within {
+        Some(within) => {
+            let sieve = BothWays::new(alloc, within)?;
+            Ok(Some(sieve))
+        }
+        None => Ok(None),
+    }
 }
 
 /// What tells how many records of a capture a run left out.

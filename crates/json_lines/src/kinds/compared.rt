@@ -3,7 +3,7 @@ ghost use Rattle.json_lines.specs.ReadBack.{AreWhole};
 
 use crate::{Form, form};
 
-static COMPARED: [Form; 13] = [
+static COMPARED: [Form; 15] = [
     form!(["sent", "alone", Number] => { "count": [2], "line": "sent alone" }),
     form!(["received", "alone", Number] => { "count": [2], "line": "received alone" }),
     // What is sent, received or both, and delays.
@@ -22,6 +22,10 @@ static COMPARED: [Form; 13] = [
         NumberBefore(b','), "sent", "alone", NumberBefore(b','), "received", "alone", Number] => {
         "both": [7], "line": "no segment", "received": [5], "received_alone": [13], "sent": [3],
         "sent_alone": [10]
+    }),
+    form!(["behind", "another", Number] => { "count": [2], "line": "behind another" }),
+    form!([TextBefore(b':'), "behind", "another", Number] => {
+        "count": [3], "line": "behind another", "place": [0]
     }),
     form!(["cut:", "sent", NumberBefore(b','), "received", Number] => {
         "line": "cut", "received": [4], "sent": [2]

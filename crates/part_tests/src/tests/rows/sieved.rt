@@ -6,6 +6,7 @@ ghost use Rattle.part_tests.specs.Left.{elsewhere, elsewhere_none, is_elsewhere 
 use crate::tests::rows::rows::Row;
 use crate::tests::rows::run::WHOLE;
 use crate::tests::rows::same::words_of;
+use endpoint_core::{Endpoint, Forwarding};
 use pcap::stream::{Input, Output};
 use segment_set::SegmentSet;
 use std::alloc::Global;
@@ -31,13 +32,13 @@ fn is_elsewhere(source: Source) -> bool
 pub(crate) struct Elsewhere;
 
 impl Sieve for Elsewhere {
-    ghost taken = { λ s es. elsewhere es };
+    ghost taken = { λ s S changes es. elsewhere es };
 
-    ghost none = { λ s. elsewhere_none };
+    ghost none = { λ s S changes. elsewhere_none };
 
-    ghost goes = { λ old e new. ⊤ };
+    ghost goes = { λ old S changes e new. ⊤ };
 
-    fn takes(&mut self, event: &Event) -> bool {
+    fn takes(&mut self, _endpoint: &Endpoint, event: &Event, _came: &Forwarding) -> bool {
         is_elsewhere(event.source())
     }
 }

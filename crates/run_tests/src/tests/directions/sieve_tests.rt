@@ -1,8 +1,14 @@
 //! Records of captures that hold both directions, in order of moment.
+ghost use Rattle.std.specs.Prelude.{IfOk};
+ghost use Rattle.endpoint_core.specs.Kept.{state_of};
+ghost use Rattle.stream_run.specs.Sights.{IsBrought};
+ghost use Rattle.timeline.specs.declared.event.Happening.TheVariants.{Record as Recorded};
+
 use both_ways::BothWays;
+use endpoint_core::{Endpoint, Forwarding, nothing_came};
+use overlay_config::{Change, settings_of};
 use std::alloc::Global;
 use std::test::Fail;
-use stream_run::read_texts;
 use test_inputs::settings::ENDPOINT;
 use test_inputs::{octets_of, three_cells};
 use timeline::{Captured, Event, Happening, Tap};
@@ -100,13 +106,38 @@ of version 4 there | u | 135 | 02000000AA0202000000AA0186DD40000000FFFF114020010
 "
 }
 
-/// Port 2 goes down.
-const PORT_2_DOWN: &str = "[[change]]\nkind = \"port_down\"\nat = 0\nport = 2\n";
+/// A sieve, and the endpoint of the run that asks it.
+#[derive(Drop)]
+struct Asked {
+    both: BothWays,
+    endpoint: Endpoint,
+}
 
-/// That of the endpoint with these changes.
-fn both_of(alloc: Global, changes: &str) -> Result<BothWays, Fail> {
-    let texts = read_texts(alloc, ENDPOINT.as_bytes(), changes.as_bytes())?;
-    Ok(BothWays::new(alloc, WITHIN, texts)?)
+/// Those of a run that begins.
+fn asked_at_first(alloc: Global) -> Result<Asked, Fail> {
+    Ok(Asked {
+        both: BothWays::new(alloc, WITHIN)?,
+        endpoint: Endpoint::open(alloc, settings_of(alloc, ENDPOINT.as_bytes())?)?,
+    })
+}
+
+/// What a record brings to a segment, or why nothing.
+fn came_of<'a>(
+    endpoint: &Endpoint,
+    tap: Tap,
+    captured: &Captured<'a>,
+) -> Result<Forwarding<'a>, Fail>
+    ensures { IfOk result (λ came. IsBrought (state_of endpoint.now).bridges.settings (Recorded tap captured.now) came) }
+{
+    match tap {
+        Tap::Port(port) => {
+            if port < 1 || port > endpoint.ports() {
+                return Err(Fail::new("no such port"));
+            }
+            Ok(endpoint.frame_from(port, captured.original, captured.octets))
+        }
+        Tap::Underlay => Ok(endpoint.frame_in(captured.original, captured.octets)),
+    }
 }
 
 /// The place of this name.
@@ -120,36 +151,32 @@ fn tap_of(name: &str) -> Result<Tap, Fail> {
 /// Whether a record at a place, at a moment and of these words, is input.
 fn is_taken(
     alloc: Global,
-    both: &mut BothWays,
+    asked: &mut Asked,
     place: &str,
     moment: &str,
     words: &str,
 ) -> Result<bool, Fail> {
     let octets = octets_of(alloc, words)?;
+    let captured = Captured {
+        original: u32::try_from(octets.len()).unwrap_or(0),
+        octets: octets.as_slice(),
+    };
+    let tap = tap_of(place)?;
+    let came = came_of(&asked.endpoint, tap, &captured)?;
     let event = Event {
         moment: moment.parse::<u64>()?,
         number: 1,
-        happening: Happening::Record(
-            tap_of(place)?,
-            Captured {
-                original: u32::try_from(octets.len()).unwrap_or(0),
-                octets: octets.as_slice(),
-            },
-        ),
+        happening: Happening::Record(tap, captured),
     };
-    Ok(both.is_input(&event))
+    Ok(asked.both.is_input(&asked.endpoint, &event, &came))
 }
 
 /// The first row that is taken otherwise than it says.
-fn wrong_row<'a>(
-    alloc: Global,
-    both: &mut BothWays,
-    rows: &'a str,
-) -> Result<Option<&'a str>, Fail> {
+fn wrong_row<'a>(alloc: Global, asked: &mut Asked, rows: &'a str) -> Result<Option<&'a str>, Fail> {
     for row in rows.lines() {
         let (name, place, rest) = three_cells(row)?;
         let (moment, words, wanted) = three_cells(rest)?;
-        if is_taken(alloc, both, place, moment, words)? != (wanted == "in") {
+        if is_taken(alloc, asked, place, moment, words)? != (wanted == "in") {
             return Ok(Some(name));
         }
     }
@@ -167,31 +194,33 @@ fn are_counted(both: &BothWays) -> bool {
 
 #[test]
 fn what_the_switch_sent_is_no_input(rt: HostRuntime) -> Result<(), Fail> {
-    let mut both = both_of(rt.alloc(), "")?;
-    let wrong = wrong_row(rt.alloc(), &mut both, rows())?.unwrap_or("none");
+    let mut asked = asked_at_first(rt.alloc())?;
+    let wrong = wrong_row(rt.alloc(), &mut asked, rows())?.unwrap_or("none");
     assert_eq!(rt; wrong, "none");
-    assert!(rt; are_counted(&both));
+    assert!(rt; are_counted(&asked.both));
     Ok(())
 }
 
 #[test]
 fn at_the_underlay_the_outer_source_decides(rt: HostRuntime) -> Result<(), Fail> {
-    let mut both = both_of(rt.alloc(), "")?;
-    let wrong = wrong_row(rt.alloc(), &mut both, sender_rows())?.unwrap_or("none");
+    let mut asked = asked_at_first(rt.alloc())?;
+    let wrong = wrong_row(rt.alloc(), &mut asked, sender_rows())?.unwrap_or("none");
     assert_eq!(rt; wrong, "none");
+    let both = &asked.both;
     assert!(rt; both.left_out(Tap::Underlay) == 10 && both.forgotten_line().is_none());
     Ok(())
 }
 
 #[test]
 fn a_change_is_always_input(rt: HostRuntime) -> Result<(), Fail> {
-    let mut both = both_of(rt.alloc(), "")?;
+    let Asked { mut both, endpoint } = asked_at_first(rt.alloc())?;
     let event = Event {
         moment: 5,
         number: 1,
         happening: Happening::Change(0),
     };
-    assert!(rt; both.is_input(&event) && both.is_input(&event));
+    let came = nothing_came();
+    assert!(rt; both.is_input(&endpoint, &event, &came) && both.is_input(&endpoint, &event, &came));
     Ok(())
 }
 
@@ -205,15 +234,12 @@ and leaves | p2 | 101 | FFFFFFFFFFFF02000000000A88B501010101 | out
 
 #[test]
 fn a_port_that_is_down_sends_nothing(rt: HostRuntime) -> Result<(), Fail> {
-    let mut both = both_of(rt.alloc(), PORT_2_DOWN)?;
-    let up = wrong_row(rt.alloc(), &mut both, flood_rows())?;
-    let down = Event {
-        moment: 120,
-        number: 1,
-        happening: Happening::Change(0),
-    };
-    assert!(rt; up.is_none() && both.is_input(&down));
-    let wrong = wrong_row(rt.alloc(), &mut both, flood_rows())?;
+    let mut asked = asked_at_first(rt.alloc())?;
+    let up = wrong_row(rt.alloc(), &mut asked, flood_rows())?;
+    let now = asked.endpoint.now();
+    let down = asked.endpoint.change(now, Change::PortDown { port: 2 });
+    assert!(rt; up.is_none() && down.is_ok());
+    let wrong = wrong_row(rt.alloc(), &mut asked, flood_rows())?;
     assert_eq!(rt; wrong.unwrap_or("none"), "and leaves");
     Ok(())
 }

@@ -3,6 +3,7 @@ use Rattle.overlay_config.specs.Change.{changes_in}
 use Rattle.overlay_config.specs.Settings.{settings_in}
 use Rattle.program_files.specs.Held.{Held, handed_on, written}
 use Rattle.segment_set.specs.Segments.{Segments}
+use Rattle.stream_run.specs.Sieved.{taken_with}
 use Rattle.runs_on_files.specs.Files.{segments_run}
 use Rattle.runs_on_files.specs.Held.{IsRunInto}
 use Rattle.runs_on_files.proofs.Holding.{if_some}
@@ -18,7 +19,7 @@ returns-in-Ok-run_into g c =
     let after = c.run_into.new.captures in
     let held = written outputs.files in
     let left = handed_on files.ports.items files.underlay files.decisions in
-    let IsRun = λ (segments : Segments) (s t : List ℕ). IsRunInto (g.S.Sieve.taken c.args.sieve.now) segments (settings_in s) (changes_in t) before.ports.items before.underlay after.ports.items after.underlay held left in
+    let IsRun = λ (segments : Segments) (s t : List ℕ). IsRunInto (taken_with (g.S.Sieve.taken c.args.sieve.now) (settings_in s) (changes_in t)) segments (settings_in s) (changes_in t) before.ports.items before.underlay after.ports.items after.underlay held left in
     let segments = c.segments_in.result.now in
     let settings = c.as_slice.result.now in
     let run : IsRun (segments_run job.scope) texts.settings.items texts.changes.items =

@@ -2,15 +2,18 @@ use Rattle.std.proofs.Common.{rules, ◌≡◌, ◌∙◌, ◌+◌, arith, ap, s
 use Rattle.std.proofs.lemmas.List.{places, with_items_is}
 use Rattle.std.specs.Vec.{with_items}
 use Rattle.overlay.specs.Settings.{Settings}
+use Rattle.timeline.specs.declared.event.Event.{Event}
 use Rattle.capture_run.specs.Among.{cuts_among}
 use Rattle.capture_run.specs.Outputs.{Outputs}
 use Rattle.capture_run.specs.Writing.{empty_outputs, with_cuts}
 use Rattle.endpoint_core.specs.Kept.{state_of}
+use Rattle.endpoint_core.specs.Opened.{settings_told}
 use Rattle.endpoint_core.specs.Step.{State}
 use Rattle.stream_run.specs.Begun.{AreAtFirst, first_turns}
 use Rattle.stream_run.specs.Cuts.{cuts_at}
 use Rattle.stream_run.specs.Left.{IsOpenedWith, ends}
 use Rattle.stream_run.specs.Over.{Tells, texts_octets}
+use Rattle.stream_run.specs.Sieved.{GoesBy}
 use Rattle.stream_run.specs.Stage.{FailedAt, StandAt, StandBetween, no_texts}
 use Rattle.stream_run.specs.Steps.{AreRead, AreReady, run_at, texts_behind}
 use Rattle.stream_run.specs.declared.turn.Turn.{Turn}
@@ -18,7 +21,7 @@ use Rattle.stream_run.proofs.Closing.{opened_read, over_lines, over_opening, ove
 use Rattle.stream_run.proofs.Framing.{leaves_all, leaves_begun, leaves_cuts, leaves_events, leaves_headers, leaves_nothing, none_at, opened_all, opens_only_reads, ready_begun}
 use Rattle.stream_run.proofs.Opened.{reads_behind}
 use Rattle.stream_run.proofs.Overall.{all_first, over_firsts, over_headers, reach_firsts, reach_headers, seen_firsts, seen_headers, tells_texts}
-use Rattle.stream_run.proofs.Running.{quiet_on}
+use Rattle.stream_run.proofs.Running.{quiet_on, with_settings}
 use Rattle.stream_run.proofs.Showing.{shows_all, shows_begun, shows_cuts, shows_events, shows_headers, shows_nothing}
 use Rattle.stream_run.specs.Waiting.{IsOutAtRead}
 use Rattle.stream_run.proofs.Waiting.{out_at_read}
@@ -80,21 +83,17 @@ read : (g : Over) (c : In_default-fetch_all g) (texts : List (Vec ℕ Global)) (
     → AreRead (texts_octets texts) text (turns_behind g c) c.fetch_all.new.captures.ports.items c.fetch_all.new.captures.underlay
 read g c texts text at = subst (λ ts. AreRead (texts_octets texts) text ts c.fetch_all.new.captures.ports.items c.fetch_all.new.captures.underlay) (sym (turns_fetched g c)) (c.in_default-fetch_all.ensures.told (texts_octets texts) text at)
 
--- behind the events
-abbrev texts_put : (g : Over) → After-put_cuts_among g → ℕ → Outputs
-texts_put g c n = texts_behind c.args.part.now.segments.now c.args.part.now.changes.now (state_of c.args.taker.now.endpoint) (empty_outputs n) (g.S.Sieve.taken c.args.sieve.now c.in_default-put_events.ensures.run.watched.run.es)
-
-events_written : (g : Over) (c : After-put_cuts_among g) (n : ℕ) → let start = c.args.outputs.now in let begun = c.begin_all.new.outputs in StandAt start begun (empty_outputs n)
-    → StandAt start c.put_events.new.outputs (texts_put g c n)
-events_written g c n at = c.in_default-put_events.ensures.run.watched.run.outputs c.args.outputs.now (empty_outputs n) at
+-- behind the events of which these are taken in
+abbrev texts_put : (g : Over) → After-put_cuts_among g → ℕ → List Event → Outputs
+texts_put g c n es = texts_behind c.args.part.now.segments.now c.args.part.now.changes.now (state_of c.args.taker.now.endpoint) (empty_outputs n) es
 
 -- where a line of a cut capture failed, they hold a part of those lines
-lines_failed : (g : Over) (c : In-Err-put_cuts_among g) (n : ℕ)
-    → let start = c.args.outputs.now in let o = texts_behind c.args.part.now.segments.now c.args.part.now.changes.now (state_of c.args.taker.now.endpoint) (empty_outputs n) (g.S.Sieve.taken c.args.sieve.now c.in_default-put_events.ensures.run.watched.run.es) in StandAt start c.put_events.new.outputs o
+lines_failed : (g : Over) (c : In-Err-put_cuts_among g) (n : ℕ) (es : List Event)
+    → let start = c.args.outputs.now in let o = texts_behind c.args.part.now.segments.now c.args.part.now.changes.now (state_of c.args.taker.now.endpoint) (empty_outputs n) es in StandAt start c.put_events.new.outputs o
     → let cut = c.put_cuts_among.new.outputs in StandBetween start cut o (with_cuts o (cuts_among c.args.part.now.segments.now (cuts_at c.put_events.new.captures.ports.items c.put_events.new.captures.underlay c.put_events.new.taker.turns.items))) × FailedAt c.in-Err-put_cuts_among.target start cut
-lines_failed g c n put =
+lines_failed g c n es put =
     let start = c.args.outputs.now in
-    let o = texts_behind c.args.part.now.segments.now c.args.part.now.changes.now (state_of c.args.taker.now.endpoint) (empty_outputs n) (g.S.Sieve.taken c.args.sieve.now c.in_default-put_events.ensures.run.watched.run.es) in
+    let o = texts_behind c.args.part.now.segments.now c.args.part.now.changes.now (state_of c.args.taker.now.endpoint) (empty_outputs n) es in
     let cut = c.put_cuts_among.new.outputs in
     subst (λ ts. StandBetween start cut o (with_cuts o (cuts_among c.args.part.now.segments.now (cuts_at c.put_events.new.captures.ports.items c.put_events.new.captures.underlay ts))) × FailedAt c.in-Err-put_cuts_among.target start cut) c.as_slice-turns.ensures.value
     (c.in-Err-put_cuts_among.ensures start o put)
@@ -108,14 +107,14 @@ returns-in-Err-clause-done g c settings is =
     let none = none_written g w.After-open_all in
     let only_reads = opens_only_reads c.args.captures.now.ports.items c.args.captures.now.underlay c.open_all.new.captures.ports.items c.open_all.new.captures.underlay c.in-Err.fault c.in-Err.ensures.opened in
     record {
-      left = leaves_nothing (g.S.Sieve.taken c.args.sieve.now) (g.S.Sieve.none c.args.sieve.now) c.args.part.now.segments.now settings c.args.part.now.changes.now (ends c.args.captures.now.ports.items c.args.captures.now.underlay start) (ends c.open_all.new.captures.ports.items c.open_all.new.captures.underlay start) c.in-Err.fault only_reads (none (length settings.ports) is.many);
-      shown = shows_nothing (g.S.Sieve.taken c.args.sieve.now) (g.S.Sieve.none c.args.sieve.now) c.args.part.now.segments.now settings c.args.part.now.changes.now start start g.T.Watch.sees g.T.Watch.ends c.args.watch.now c.in-Err.fault only_reads (none (length settings.ports) is.many);
+      left = leaves_nothing (g.S.Sieve.taken c.args.sieve.now (settings_told settings) c.args.part.now.changes.now) (g.S.Sieve.none c.args.sieve.now (settings_told settings) c.args.part.now.changes.now) c.args.part.now.segments.now settings c.args.part.now.changes.now (ends c.args.captures.now.ports.items c.args.captures.now.underlay start) (ends c.open_all.new.captures.ports.items c.open_all.new.captures.underlay start) c.in-Err.fault only_reads (none (length settings.ports) is.many);
+      shown = shows_nothing (g.S.Sieve.taken c.args.sieve.now (settings_told settings) c.args.part.now.changes.now) (g.S.Sieve.none c.args.sieve.now (settings_told settings) c.args.part.now.changes.now) c.args.part.now.segments.now settings c.args.part.now.changes.now start start g.T.Watch.sees g.T.Watch.ends c.args.watch.now c.in-Err.fault only_reads (none (length settings.ports) is.many);
       over = λ texts text tells.
           let many = tells_texts c.args.captures.now.ports.items c.args.captures.now.underlay texts text tells in
           record {
-            left = over_opening (g.S.Sieve.taken c.args.sieve.now) (g.S.Sieve.none c.args.sieve.now) c.args.part.now.segments.now settings c.args.part.now.changes.now texts text start start c.args.captures.now.ports.items c.open_all.new.captures.ports.items c.args.captures.now.underlay c.open_all.new.captures.underlay c.in-Err.fault tells c.in-Err.ensures.opened (sym many ∙ is.many) (none (length texts) many);
-            reached = reach_opening (g.S.Sieve.taken c.args.sieve.now) (g.S.Sieve.none c.args.sieve.now) c.args.part.now.segments.now settings c.args.part.now.changes.now texts text start start c.args.captures.now.ports.items c.open_all.new.captures.ports.items c.args.captures.now.underlay c.open_all.new.captures.underlay c.in-Err.fault c.in-Err.ensures.opened (none (length texts) many);
-            seen = seen_opening (g.S.Sieve.taken c.args.sieve.now) (g.S.Sieve.none c.args.sieve.now) c.args.part.now.segments.now settings c.args.part.now.changes.now texts text start g.T.Watch.sees g.T.Watch.ends c.args.watch.now start c.args.captures.now.ports.items c.open_all.new.captures.ports.items c.args.captures.now.underlay c.open_all.new.captures.underlay c.in-Err.fault c.in-Err.ensures.opened (none (length texts) many);
+            left = over_opening (g.S.Sieve.taken c.args.sieve.now (settings_told settings) c.args.part.now.changes.now) (g.S.Sieve.none c.args.sieve.now (settings_told settings) c.args.part.now.changes.now) c.args.part.now.segments.now settings c.args.part.now.changes.now texts text start start c.args.captures.now.ports.items c.open_all.new.captures.ports.items c.args.captures.now.underlay c.open_all.new.captures.underlay c.in-Err.fault tells c.in-Err.ensures.opened (sym many ∙ is.many) (none (length texts) many);
+            reached = reach_opening (g.S.Sieve.taken c.args.sieve.now (settings_told settings) c.args.part.now.changes.now) (g.S.Sieve.none c.args.sieve.now (settings_told settings) c.args.part.now.changes.now) c.args.part.now.segments.now settings c.args.part.now.changes.now texts text start start c.args.captures.now.ports.items c.open_all.new.captures.ports.items c.args.captures.now.underlay c.open_all.new.captures.underlay c.in-Err.fault c.in-Err.ensures.opened (none (length texts) many);
+            seen = seen_opening (g.S.Sieve.taken c.args.sieve.now (settings_told settings) c.args.part.now.changes.now) (g.S.Sieve.none c.args.sieve.now (settings_told settings) c.args.part.now.changes.now) c.args.part.now.segments.now settings c.args.part.now.changes.now texts text start g.T.Watch.sees g.T.Watch.ends c.args.watch.now start c.args.captures.now.ports.items c.open_all.new.captures.ports.items c.args.captures.now.underlay c.open_all.new.captures.underlay c.in-Err.fault c.in-Err.ensures.opened (none (length texts) many);
             went = tt;
           };
     }
@@ -129,16 +128,16 @@ returns-in-Err-begin_all-clause-done g c settings is =
     let begun = c.begin_all.new.outputs in
     let failed = header_failed g w.In-Err-begin_all in
     record {
-      left = leaves_begun (g.S.Sieve.taken c.args.sieve.now) (g.S.Sieve.none c.args.sieve.now) c.args.part.now.segments.now settings c.args.part.now.changes.now (ends c.args.captures.now.ports.items c.args.captures.now.underlay start) (ends c.open_all.new.captures.ports.items c.open_all.new.captures.underlay begun) c.in-Err-begin_all.target (failed (length settings.ports) is.many);
-      shown = shows_begun (g.S.Sieve.taken c.args.sieve.now) (g.S.Sieve.none c.args.sieve.now) c.args.part.now.segments.now settings c.args.part.now.changes.now start begun g.T.Watch.sees g.T.Watch.ends c.args.watch.now c.in-Err-begin_all.target (failed (length settings.ports) is.many).0;
+      left = leaves_begun (g.S.Sieve.taken c.args.sieve.now (settings_told settings) c.args.part.now.changes.now) (g.S.Sieve.none c.args.sieve.now (settings_told settings) c.args.part.now.changes.now) c.args.part.now.segments.now settings c.args.part.now.changes.now (ends c.args.captures.now.ports.items c.args.captures.now.underlay start) (ends c.open_all.new.captures.ports.items c.open_all.new.captures.underlay begun) c.in-Err-begin_all.target (failed (length settings.ports) is.many);
+      shown = shows_begun (g.S.Sieve.taken c.args.sieve.now (settings_told settings) c.args.part.now.changes.now) (g.S.Sieve.none c.args.sieve.now (settings_told settings) c.args.part.now.changes.now) c.args.part.now.segments.now settings c.args.part.now.changes.now start begun g.T.Watch.sees g.T.Watch.ends c.args.watch.now c.in-Err-begin_all.target (failed (length settings.ports) is.many).0;
       over = λ texts text tells.
           let many = tells_texts c.args.captures.now.ports.items c.args.captures.now.underlay texts text tells in
           let half = (failed (length texts) many).0 in
           let can = all_first texts text c.open_all.new.captures.ports.items c.open_all.new.captures.underlay (opened_read c.args.captures.now.ports.items c.open_all.new.captures.ports.items c.args.captures.now.underlay c.open_all.new.captures.underlay texts text tells (omega (arith, c.in_default.ensures.many)) c.in_default.ensures.opened) in
           record {
-            left = over_headers (g.S.Sieve.taken c.args.sieve.now) (g.S.Sieve.none c.args.sieve.now) c.args.part.now.segments.now settings c.args.part.now.changes.now texts text start begun c.in-Err-begin_all.target can half;
-            reached = reach_headers (g.S.Sieve.taken c.args.sieve.now) (g.S.Sieve.none c.args.sieve.now) c.args.part.now.segments.now settings c.args.part.now.changes.now texts text start begun c.open_all.new.captures.ports.items c.open_all.new.captures.underlay c.in-Err-begin_all.target can half;
-            seen = seen_headers (g.S.Sieve.taken c.args.sieve.now) (g.S.Sieve.none c.args.sieve.now) c.args.part.now.segments.now settings c.args.part.now.changes.now texts text start begun g.T.Watch.sees g.T.Watch.ends c.args.watch.now c.in-Err-begin_all.target can half;
+            left = over_headers (g.S.Sieve.taken c.args.sieve.now (settings_told settings) c.args.part.now.changes.now) (g.S.Sieve.none c.args.sieve.now (settings_told settings) c.args.part.now.changes.now) c.args.part.now.segments.now settings c.args.part.now.changes.now texts text start begun c.in-Err-begin_all.target can half;
+            reached = reach_headers (g.S.Sieve.taken c.args.sieve.now (settings_told settings) c.args.part.now.changes.now) (g.S.Sieve.none c.args.sieve.now (settings_told settings) c.args.part.now.changes.now) c.args.part.now.segments.now settings c.args.part.now.changes.now texts text start begun c.open_all.new.captures.ports.items c.open_all.new.captures.underlay c.in-Err-begin_all.target can half;
+            seen = seen_headers (g.S.Sieve.taken c.args.sieve.now (settings_told settings) c.args.part.now.changes.now) (g.S.Sieve.none c.args.sieve.now (settings_told settings) c.args.part.now.changes.now) c.args.part.now.segments.now settings c.args.part.now.changes.now texts text start begun g.T.Watch.sees g.T.Watch.ends c.args.watch.now c.in-Err-begin_all.target can half;
             went = tt;
           };
     }
@@ -155,8 +154,8 @@ returns-in-Err-fetch_all-clause-done g c settings is =
     let begun = c.begin_all.new.outputs in
     let headers = headers_written g w.After-fetch_all in
     record {
-      left = leaves_headers (g.S.Sieve.taken c.args.sieve.now) (g.S.Sieve.none c.args.sieve.now) c.args.part.now.segments.now settings c.args.part.now.changes.now (ends c.args.captures.now.ports.items c.args.captures.now.underlay start) (ends c.fetch_all.new.captures.ports.items c.fetch_all.new.captures.underlay begun) c.in-Err-fetch_all.fault c.in-Err-fetch_all.ensures.only_reads (headers (length settings.ports) is.many);
-      shown = shows_headers (g.S.Sieve.taken c.args.sieve.now) (g.S.Sieve.none c.args.sieve.now) c.args.part.now.segments.now settings c.args.part.now.changes.now start begun g.T.Watch.sees g.T.Watch.ends c.args.watch.now c.in-Err-fetch_all.fault c.in-Err-fetch_all.ensures.only_reads (headers (length settings.ports) is.many);
+      left = leaves_headers (g.S.Sieve.taken c.args.sieve.now (settings_told settings) c.args.part.now.changes.now) (g.S.Sieve.none c.args.sieve.now (settings_told settings) c.args.part.now.changes.now) c.args.part.now.segments.now settings c.args.part.now.changes.now (ends c.args.captures.now.ports.items c.args.captures.now.underlay start) (ends c.fetch_all.new.captures.ports.items c.fetch_all.new.captures.underlay begun) c.in-Err-fetch_all.fault c.in-Err-fetch_all.ensures.only_reads (headers (length settings.ports) is.many);
+      shown = shows_headers (g.S.Sieve.taken c.args.sieve.now (settings_told settings) c.args.part.now.changes.now) (g.S.Sieve.none c.args.sieve.now (settings_told settings) c.args.part.now.changes.now) c.args.part.now.segments.now settings c.args.part.now.changes.now start begun g.T.Watch.sees g.T.Watch.ends c.args.watch.now c.in-Err-fetch_all.fault c.in-Err-fetch_all.ensures.only_reads (headers (length settings.ports) is.many);
       over = λ texts text tells.
           let many = tells_texts c.args.captures.now.ports.items c.args.captures.now.underlay texts text tells in
           let at = headers (length texts) many in
@@ -164,9 +163,9 @@ returns-in-Err-fetch_all-clause-done g c settings is =
           let can = all_first texts text c.open_all.new.captures.ports.items c.open_all.new.captures.underlay first in
           let told = c.in-Err-fetch_all.ensures.told (texts_octets texts) text first in
           record {
-            left = over_firsts (g.S.Sieve.taken c.args.sieve.now) (g.S.Sieve.none c.args.sieve.now) c.args.part.now.segments.now settings c.args.part.now.changes.now texts text start begun c.in-Err-fetch_all.fault c.fetch_all.new.turns c.fetch_all.new.captures.ports.items c.fetch_all.new.captures.underlay told can at;
-            reached = reach_firsts (g.S.Sieve.taken c.args.sieve.now) (g.S.Sieve.none c.args.sieve.now) c.args.part.now.segments.now settings c.args.part.now.changes.now texts text start begun c.in-Err-fetch_all.fault c.fetch_all.new.turns c.fetch_all.new.captures.ports.items c.fetch_all.new.captures.underlay told can at;
-            seen = seen_firsts (g.S.Sieve.taken c.args.sieve.now) (g.S.Sieve.none c.args.sieve.now) c.args.part.now.segments.now settings c.args.part.now.changes.now texts text start begun g.T.Watch.sees g.T.Watch.ends c.args.watch.now c.in-Err-fetch_all.fault c.fetch_all.new.turns c.fetch_all.new.captures.ports.items c.fetch_all.new.captures.underlay told can at;
+            left = over_firsts (g.S.Sieve.taken c.args.sieve.now (settings_told settings) c.args.part.now.changes.now) (g.S.Sieve.none c.args.sieve.now (settings_told settings) c.args.part.now.changes.now) c.args.part.now.segments.now settings c.args.part.now.changes.now texts text start begun c.in-Err-fetch_all.fault c.fetch_all.new.turns c.fetch_all.new.captures.ports.items c.fetch_all.new.captures.underlay told can at;
+            reached = reach_firsts (g.S.Sieve.taken c.args.sieve.now (settings_told settings) c.args.part.now.changes.now) (g.S.Sieve.none c.args.sieve.now (settings_told settings) c.args.part.now.changes.now) c.args.part.now.segments.now settings c.args.part.now.changes.now texts text start begun c.in-Err-fetch_all.fault c.fetch_all.new.turns c.fetch_all.new.captures.ports.items c.fetch_all.new.captures.underlay told can at;
+            seen = seen_firsts (g.S.Sieve.taken c.args.sieve.now (settings_told settings) c.args.part.now.changes.now) (g.S.Sieve.none c.args.sieve.now (settings_told settings) c.args.part.now.changes.now) c.args.part.now.segments.now settings c.args.part.now.changes.now texts text start begun g.T.Watch.sees g.T.Watch.ends c.args.watch.now c.in-Err-fetch_all.fault c.fetch_all.new.turns c.fetch_all.new.captures.ports.items c.fetch_all.new.captures.underlay told can at;
             went = tt;
           };
     }
@@ -187,22 +186,23 @@ returns-in-Err-put_events-clause-done g c settings is =
     let begun = c.begin_all.new.outputs in
     let headers = headers_written g w.After-fetch_all in
     let all_ready = ready g w.In_default-fetch_all settings is in
-    let run = c.in-Err-put_events.ensures.run.watched.run in
+    let on = with_settings c.args.part.now.segments.now g.S.Sieve.taken g.S.Sieve.goes g.T.Watch.sees c.args.part.now.changes.now _ _ c.args.sieve.now _ (settings_told settings) _ c.args.watch.now _ _ (ap (λ (s : State). s.bridges.settings) is.state_is) c.in-Err-put_events.ensures.run in
+    let run = on.watched.run in
     let n = length settings.ports in
     record {
-      left = leaves_events (g.S.Sieve.taken c.args.sieve.now) (g.S.Sieve.none c.args.sieve.now) c.args.part.now.segments.now settings c.args.part.now.changes.now (ends c.args.captures.now.ports.items c.args.captures.now.underlay start) (ends c.put_events.new.captures.ports.items c.put_events.new.captures.underlay c.put_events.new.outputs) (state_of c.args.taker.now.endpoint) run.es run.more c.in-Err-put_events.fault is.state_is run.part run.numbered
+      left = leaves_events (g.S.Sieve.taken c.args.sieve.now (settings_told settings) c.args.part.now.changes.now) (g.S.Sieve.none c.args.sieve.now (settings_told settings) c.args.part.now.changes.now) c.args.part.now.segments.now settings c.args.part.now.changes.now (ends c.args.captures.now.ports.items c.args.captures.now.underlay start) (ends c.put_events.new.captures.ports.items c.put_events.new.captures.underlay c.put_events.new.outputs) (state_of c.args.taker.now.endpoint) run.es run.more c.in-Err-put_events.fault is.state_is run.part run.numbered
           (run.outputs start (empty_outputs n) (headers n is.many)) (run.order start (empty_outputs n) (headers n is.many));
-      shown = shows_events (g.S.Sieve.taken c.args.sieve.now) (g.S.Sieve.none c.args.sieve.now) c.args.part.now.segments.now settings c.args.part.now.changes.now start begun g.T.Watch.sees g.T.Watch.ends c.args.watch.now
-          (run_at c.fetch_all.new.captures.ports.items c.fetch_all.new.captures.underlay (turns_behind g w.In_default-fetch_all) (state_of c.args.taker.now.endpoint) 0 begun) _ is.state_is (headers n is.many) c.put_events.new.watch c.in-Err-put_events.fault c.in-Err-put_events.ensures.run.watched;
+      shown = shows_events (g.S.Sieve.taken c.args.sieve.now (settings_told settings) c.args.part.now.changes.now) (g.S.Sieve.none c.args.sieve.now (settings_told settings) c.args.part.now.changes.now) c.args.part.now.segments.now settings c.args.part.now.changes.now start begun g.T.Watch.sees g.T.Watch.ends c.args.watch.now
+          (run_at c.fetch_all.new.captures.ports.items c.fetch_all.new.captures.underlay (turns_behind g w.In_default-fetch_all) (state_of c.args.taker.now.endpoint) 0 begun) _ is.state_is (headers n is.many) c.put_events.new.watch c.in-Err-put_events.fault on.watched;
       over = λ texts text tells.
           let many = tells_texts c.args.captures.now.ports.items c.args.captures.now.underlay texts text tells in
           let at = headers (length texts) many in
           let first = read g w.In_default-fetch_all texts text (at_first g w.After-fetch_all texts text tells) in
           record {
-            left = over_run (g.S.Sieve.taken c.args.sieve.now) (g.S.Sieve.none c.args.sieve.now) c.args.part.now.segments.now settings c.args.part.now.changes.now texts text start c.fetch_all.new.captures.ports.items c.fetch_all.new.captures.underlay (turns_behind g w.In_default-fetch_all) (state_of c.args.taker.now.endpoint) begun _ all_ready first at is.state_is c.in-Err-put_events.fault run;
-            reached = reach_run (g.S.Sieve.taken c.args.sieve.now) (g.S.Sieve.none c.args.sieve.now) c.args.part.now.segments.now settings c.args.part.now.changes.now texts text start c.fetch_all.new.captures.ports.items c.fetch_all.new.captures.underlay (turns_behind g w.In_default-fetch_all) (state_of c.args.taker.now.endpoint) begun _ all_ready first at is.state_is c.in-Err-put_events.fault run;
-            seen = seen_run (g.S.Sieve.taken c.args.sieve.now) (g.S.Sieve.none c.args.sieve.now) c.args.part.now.segments.now settings c.args.part.now.changes.now texts text start c.fetch_all.new.captures.ports.items c.fetch_all.new.captures.underlay (turns_behind g w.In_default-fetch_all) (state_of c.args.taker.now.endpoint) begun _ all_ready first at is.state_is
-                g.T.Watch.sees g.T.Watch.ends c.args.watch.now c.in-Err-put_events.fault c.put_events.new.watch c.in-Err-put_events.ensures.run.watched;
+            left = over_run (g.S.Sieve.taken c.args.sieve.now (settings_told settings) c.args.part.now.changes.now) (g.S.Sieve.none c.args.sieve.now (settings_told settings) c.args.part.now.changes.now) c.args.part.now.segments.now settings c.args.part.now.changes.now texts text start c.fetch_all.new.captures.ports.items c.fetch_all.new.captures.underlay (turns_behind g w.In_default-fetch_all) (state_of c.args.taker.now.endpoint) begun _ all_ready first at is.state_is c.in-Err-put_events.fault run;
+            reached = reach_run (g.S.Sieve.taken c.args.sieve.now (settings_told settings) c.args.part.now.changes.now) (g.S.Sieve.none c.args.sieve.now (settings_told settings) c.args.part.now.changes.now) c.args.part.now.segments.now settings c.args.part.now.changes.now texts text start c.fetch_all.new.captures.ports.items c.fetch_all.new.captures.underlay (turns_behind g w.In_default-fetch_all) (state_of c.args.taker.now.endpoint) begun _ all_ready first at is.state_is c.in-Err-put_events.fault run;
+            seen = seen_run (g.S.Sieve.taken c.args.sieve.now (settings_told settings) c.args.part.now.changes.now) (g.S.Sieve.none c.args.sieve.now (settings_told settings) c.args.part.now.changes.now) c.args.part.now.segments.now settings c.args.part.now.changes.now texts text start c.fetch_all.new.captures.ports.items c.fetch_all.new.captures.underlay (turns_behind g w.In_default-fetch_all) (state_of c.args.taker.now.endpoint) begun _ all_ready first at is.state_is
+                g.T.Watch.sees g.T.Watch.ends c.args.watch.now c.in-Err-put_events.fault c.put_events.new.watch on.watched;
             went = tt;
           };
     }
@@ -223,28 +223,33 @@ returns-in-Ok-clause-done g c settings is =
     let headers = headers_written g w.After-fetch_all in
     let all_ready = ready g w.In_default-fetch_all settings is in
     let cut = c.put_cuts_among.new.outputs in
-    let run = c.in_default-put_events.ensures.run.watched.run in
-    let put = events_written g w.After-put_cuts_among in
+    let on = with_settings c.args.part.now.segments.now g.S.Sieve.taken g.S.Sieve.goes g.T.Watch.sees c.args.part.now.changes.now _ _ c.args.sieve.now _ (settings_told settings) _ c.args.watch.now _ _ (ap (λ (s : State). s.bridges.settings) is.state_is) c.in_default-put_events.ensures.run in
+    let run = on.watched.run in
+    let es = g.S.Sieve.taken c.args.sieve.now (settings_told settings) c.args.part.now.changes.now run.es in
+    let put = λ (n : ℕ) (at : StandAt start begun (empty_outputs n)). run.outputs start (empty_outputs n) at in
     let n = length settings.ports in
     let lines = λ (n : ℕ) (at : StandAt start begun (empty_outputs n)).
-    subst (λ ts. StandAt start cut (with_cuts (texts_put g w.After-put_cuts_among n) (cuts_among c.args.part.now.segments.now (cuts_at c.put_events.new.captures.ports.items c.put_events.new.captures.underlay ts)))) c.as_slice-turns.ensures.value
-    (c.in-Ok.ensures start (texts_put g w.After-put_cuts_among n) (put n at)) in
+    subst (λ ts. StandAt start cut (with_cuts (texts_put g w.After-put_cuts_among n es) (cuts_among c.args.part.now.segments.now (cuts_at c.put_events.new.captures.ports.items c.put_events.new.captures.underlay ts)))) c.as_slice-turns.ensures.value
+    (c.in-Ok.ensures start (texts_put g w.After-put_cuts_among n es) (put n at)) in
     record {
-      left = leaves_all (g.S.Sieve.taken c.args.sieve.now) (g.S.Sieve.none c.args.sieve.now) c.args.part.now.segments.now settings c.args.part.now.changes.now (ends c.args.captures.now.ports.items c.args.captures.now.underlay start) (ends c.put_events.new.captures.ports.items c.put_events.new.captures.underlay cut) (state_of c.args.taker.now.endpoint) run.es (cuts_among c.args.part.now.segments.now (cuts_at c.put_events.new.captures.ports.items c.put_events.new.captures.underlay c.put_events.new.taker.turns.items)) is.state_is (lines n (headers n is.many));
-      shown = shows_all (g.S.Sieve.taken c.args.sieve.now) (g.S.Sieve.none c.args.sieve.now) c.args.part.now.segments.now settings c.args.part.now.changes.now start cut g.T.Watch.sees g.T.Watch.ends c.args.watch.now
-          (run_at c.fetch_all.new.captures.ports.items c.fetch_all.new.captures.underlay (turns_behind g w.In_default-fetch_all) (state_of c.args.taker.now.endpoint) 0 begun) _ is.state_is (headers n is.many) c.put_events.new.watch (cuts_among c.args.part.now.segments.now (cuts_at c.put_events.new.captures.ports.items c.put_events.new.captures.underlay c.put_events.new.taker.turns.items)) c.end.new.self c.in_default-put_events.ensures.run.watched (lines n (headers n is.many)) c.end.ensures;
+      left = leaves_all (g.S.Sieve.taken c.args.sieve.now (settings_told settings) c.args.part.now.changes.now) (g.S.Sieve.none c.args.sieve.now (settings_told settings) c.args.part.now.changes.now) c.args.part.now.segments.now settings c.args.part.now.changes.now (ends c.args.captures.now.ports.items c.args.captures.now.underlay start) (ends c.put_events.new.captures.ports.items c.put_events.new.captures.underlay cut) (state_of c.args.taker.now.endpoint) run.es (cuts_among c.args.part.now.segments.now (cuts_at c.put_events.new.captures.ports.items c.put_events.new.captures.underlay c.put_events.new.taker.turns.items)) is.state_is (lines n (headers n is.many));
+      shown = shows_all (g.S.Sieve.taken c.args.sieve.now (settings_told settings) c.args.part.now.changes.now) (g.S.Sieve.none c.args.sieve.now (settings_told settings) c.args.part.now.changes.now) c.args.part.now.segments.now settings c.args.part.now.changes.now start cut g.T.Watch.sees g.T.Watch.ends c.args.watch.now
+          (run_at c.fetch_all.new.captures.ports.items c.fetch_all.new.captures.underlay (turns_behind g w.In_default-fetch_all) (state_of c.args.taker.now.endpoint) 0 begun) _ is.state_is (headers n is.many) c.put_events.new.watch (cuts_among c.args.part.now.segments.now (cuts_at c.put_events.new.captures.ports.items c.put_events.new.captures.underlay c.put_events.new.taker.turns.items)) c.end.new.self on.watched (lines n (headers n is.many)) c.end.ensures;
       over = λ texts text tells.
           let many = tells_texts c.args.captures.now.ports.items c.args.captures.now.underlay texts text tells in
           let at = headers (length texts) many in
           let first = read g w.In_default-fetch_all texts text (at_first g w.After-fetch_all texts text tells) in
           record {
-            left = over_whole (g.S.Sieve.taken c.args.sieve.now) (g.S.Sieve.none c.args.sieve.now) c.args.part.now.segments.now settings c.args.part.now.changes.now texts text start c.fetch_all.new.captures.ports.items c.fetch_all.new.captures.underlay (turns_behind g w.In_default-fetch_all) (state_of c.args.taker.now.endpoint) begun _ all_ready first at is.state_is cut run (sym many ∙ is.many)
+            left = over_whole (g.S.Sieve.taken c.args.sieve.now (settings_told settings) c.args.part.now.changes.now) (g.S.Sieve.none c.args.sieve.now (settings_told settings) c.args.part.now.changes.now) c.args.part.now.segments.now settings c.args.part.now.changes.now texts text start c.fetch_all.new.captures.ports.items c.fetch_all.new.captures.underlay (turns_behind g w.In_default-fetch_all) (state_of c.args.taker.now.endpoint) begun _ all_ready first at is.state_is cut run (sym many ∙ is.many)
                 (lines (length texts) at);
-            reached = reach_whole (g.S.Sieve.taken c.args.sieve.now) (g.S.Sieve.none c.args.sieve.now) c.args.part.now.segments.now settings c.args.part.now.changes.now texts text start c.fetch_all.new.captures.ports.items c.fetch_all.new.captures.underlay (turns_behind g w.In_default-fetch_all) (state_of c.args.taker.now.endpoint) begun _ all_ready first at is.state_is cut run;
-            seen = seen_whole (g.S.Sieve.taken c.args.sieve.now) (g.S.Sieve.none c.args.sieve.now) c.args.part.now.segments.now settings c.args.part.now.changes.now texts text start c.fetch_all.new.captures.ports.items c.fetch_all.new.captures.underlay (turns_behind g w.In_default-fetch_all) (state_of c.args.taker.now.endpoint) begun _ all_ready first at is.state_is
-                g.T.Watch.sees g.T.Watch.ends c.args.watch.now cut c.put_events.new.watch c.end.new.self c.in_default-put_events.ensures.run.watched c.end.ensures;
-            went = went_whole (g.S.Sieve.taken c.args.sieve.now) (g.S.Sieve.none c.args.sieve.now) c.args.part.now.segments.now settings c.args.part.now.changes.now texts text start c.fetch_all.new.captures.ports.items c.fetch_all.new.captures.underlay (turns_behind g w.In_default-fetch_all) (state_of c.args.taker.now.endpoint) begun _ all_ready first at is.state_is
-                g.S.Sieve.goes c.args.sieve.now c.put_events.new.sieve run c.in_default-put_events.ensures.run.went;
+            reached = reach_whole (g.S.Sieve.taken c.args.sieve.now (settings_told settings) c.args.part.now.changes.now) (g.S.Sieve.none c.args.sieve.now (settings_told settings) c.args.part.now.changes.now) c.args.part.now.segments.now settings c.args.part.now.changes.now texts text start c.fetch_all.new.captures.ports.items c.fetch_all.new.captures.underlay (turns_behind g w.In_default-fetch_all) (state_of c.args.taker.now.endpoint) begun _ all_ready first at is.state_is cut run;
+            seen = seen_whole (g.S.Sieve.taken c.args.sieve.now (settings_told settings) c.args.part.now.changes.now) (g.S.Sieve.none c.args.sieve.now (settings_told settings) c.args.part.now.changes.now) c.args.part.now.segments.now settings c.args.part.now.changes.now texts text start c.fetch_all.new.captures.ports.items c.fetch_all.new.captures.underlay (turns_behind g w.In_default-fetch_all) (state_of c.args.taker.now.endpoint) begun _ all_ready first at is.state_is
+                g.T.Watch.sees g.T.Watch.ends c.args.watch.now cut c.put_events.new.watch c.end.new.self on.watched c.end.ensures;
+            went = (
+              (state_of c.put_events.new.taker.endpoint).bridges.settings,
+              went_whole (g.S.Sieve.taken c.args.sieve.now (settings_told settings) c.args.part.now.changes.now) (g.S.Sieve.none c.args.sieve.now (settings_told settings) c.args.part.now.changes.now) c.args.part.now.segments.now settings c.args.part.now.changes.now texts text start c.fetch_all.new.captures.ports.items c.fetch_all.new.captures.underlay (turns_behind g w.In_default-fetch_all) (state_of c.args.taker.now.endpoint) begun _ all_ready first at is.state_is
+                  (GoesBy g.S.Sieve.goes c.args.part.now.changes.now) _ _ run on.went,
+            );
           };
     }
 
@@ -258,24 +263,26 @@ returns-in-Err-put_cuts_among-clause-done g c settings is =
     let headers = headers_written g w.After-fetch_all in
     let all_ready = ready g w.In_default-fetch_all settings is in
     let cut = c.put_cuts_among.new.outputs in
-    let run = c.in_default-put_events.ensures.run.watched.run in
-    let put = events_written g w.After-put_cuts_among in
+    let on = with_settings c.args.part.now.segments.now g.S.Sieve.taken g.S.Sieve.goes g.T.Watch.sees c.args.part.now.changes.now _ _ c.args.sieve.now _ (settings_told settings) _ c.args.watch.now _ _ (ap (λ (s : State). s.bridges.settings) is.state_is) c.in_default-put_events.ensures.run in
+    let run = on.watched.run in
+    let es = g.S.Sieve.taken c.args.sieve.now (settings_told settings) c.args.part.now.changes.now run.es in
+    let put = λ (n : ℕ) (at : StandAt start begun (empty_outputs n)). run.outputs start (empty_outputs n) at in
     let n = length settings.ports in
-    let failed = lines_failed g w.In-Err-put_cuts_among n (put n (headers n is.many)) in
+    let failed = lines_failed g w.In-Err-put_cuts_among n es (put n (headers n is.many)) in
     record {
-      left = leaves_cuts (g.S.Sieve.taken c.args.sieve.now) (g.S.Sieve.none c.args.sieve.now) c.args.part.now.segments.now settings c.args.part.now.changes.now (ends c.args.captures.now.ports.items c.args.captures.now.underlay start) (ends c.put_events.new.captures.ports.items c.put_events.new.captures.underlay cut) (state_of c.args.taker.now.endpoint) run.es (cuts_among c.args.part.now.segments.now (cuts_at c.put_events.new.captures.ports.items c.put_events.new.captures.underlay c.put_events.new.taker.turns.items)) c.in-Err-put_cuts_among.target is.state_is failed;
-      shown = shows_cuts (g.S.Sieve.taken c.args.sieve.now) (g.S.Sieve.none c.args.sieve.now) c.args.part.now.segments.now settings c.args.part.now.changes.now start cut g.T.Watch.sees g.T.Watch.ends c.args.watch.now
-          (run_at c.fetch_all.new.captures.ports.items c.fetch_all.new.captures.underlay (turns_behind g w.In_default-fetch_all) (state_of c.args.taker.now.endpoint) 0 begun) _ is.state_is (headers n is.many) c.put_events.new.watch (cuts_among c.args.part.now.segments.now (cuts_at c.put_events.new.captures.ports.items c.put_events.new.captures.underlay c.put_events.new.taker.turns.items)) c.in-Err-put_cuts_among.target c.in_default-put_events.ensures.run.watched failed.0;
+      left = leaves_cuts (g.S.Sieve.taken c.args.sieve.now (settings_told settings) c.args.part.now.changes.now) (g.S.Sieve.none c.args.sieve.now (settings_told settings) c.args.part.now.changes.now) c.args.part.now.segments.now settings c.args.part.now.changes.now (ends c.args.captures.now.ports.items c.args.captures.now.underlay start) (ends c.put_events.new.captures.ports.items c.put_events.new.captures.underlay cut) (state_of c.args.taker.now.endpoint) run.es (cuts_among c.args.part.now.segments.now (cuts_at c.put_events.new.captures.ports.items c.put_events.new.captures.underlay c.put_events.new.taker.turns.items)) c.in-Err-put_cuts_among.target is.state_is failed;
+      shown = shows_cuts (g.S.Sieve.taken c.args.sieve.now (settings_told settings) c.args.part.now.changes.now) (g.S.Sieve.none c.args.sieve.now (settings_told settings) c.args.part.now.changes.now) c.args.part.now.segments.now settings c.args.part.now.changes.now start cut g.T.Watch.sees g.T.Watch.ends c.args.watch.now
+          (run_at c.fetch_all.new.captures.ports.items c.fetch_all.new.captures.underlay (turns_behind g w.In_default-fetch_all) (state_of c.args.taker.now.endpoint) 0 begun) _ is.state_is (headers n is.many) c.put_events.new.watch (cuts_among c.args.part.now.segments.now (cuts_at c.put_events.new.captures.ports.items c.put_events.new.captures.underlay c.put_events.new.taker.turns.items)) c.in-Err-put_cuts_among.target on.watched failed.0;
       over = λ texts text tells.
           let many = tells_texts c.args.captures.now.ports.items c.args.captures.now.underlay texts text tells in
           let at = headers (length texts) many in
           let first = read g w.In_default-fetch_all texts text (at_first g w.After-fetch_all texts text tells) in
-          let lines = lines_failed g w.In-Err-put_cuts_among (length texts) (put (length texts) at) in
+          let lines = lines_failed g w.In-Err-put_cuts_among (length texts) es (put (length texts) at) in
           record {
-            left = over_lines (g.S.Sieve.taken c.args.sieve.now) (g.S.Sieve.none c.args.sieve.now) c.args.part.now.segments.now settings c.args.part.now.changes.now texts text start c.fetch_all.new.captures.ports.items c.fetch_all.new.captures.underlay (turns_behind g w.In_default-fetch_all) (state_of c.args.taker.now.endpoint) begun _ all_ready first at is.state_is cut c.in-Err-put_cuts_among.target run lines;
-            reached = reach_lines (g.S.Sieve.taken c.args.sieve.now) (g.S.Sieve.none c.args.sieve.now) c.args.part.now.segments.now settings c.args.part.now.changes.now texts text start c.fetch_all.new.captures.ports.items c.fetch_all.new.captures.underlay (turns_behind g w.In_default-fetch_all) (state_of c.args.taker.now.endpoint) begun _ all_ready first at is.state_is cut c.in-Err-put_cuts_among.target run lines;
-            seen = seen_lines (g.S.Sieve.taken c.args.sieve.now) (g.S.Sieve.none c.args.sieve.now) c.args.part.now.segments.now settings c.args.part.now.changes.now texts text start c.fetch_all.new.captures.ports.items c.fetch_all.new.captures.underlay (turns_behind g w.In_default-fetch_all) (state_of c.args.taker.now.endpoint) begun _ all_ready first at is.state_is
-                g.T.Watch.sees g.T.Watch.ends c.args.watch.now cut c.in-Err-put_cuts_among.target c.put_events.new.watch c.in_default-put_events.ensures.run.watched lines;
+            left = over_lines (g.S.Sieve.taken c.args.sieve.now (settings_told settings) c.args.part.now.changes.now) (g.S.Sieve.none c.args.sieve.now (settings_told settings) c.args.part.now.changes.now) c.args.part.now.segments.now settings c.args.part.now.changes.now texts text start c.fetch_all.new.captures.ports.items c.fetch_all.new.captures.underlay (turns_behind g w.In_default-fetch_all) (state_of c.args.taker.now.endpoint) begun _ all_ready first at is.state_is cut c.in-Err-put_cuts_among.target run lines;
+            reached = reach_lines (g.S.Sieve.taken c.args.sieve.now (settings_told settings) c.args.part.now.changes.now) (g.S.Sieve.none c.args.sieve.now (settings_told settings) c.args.part.now.changes.now) c.args.part.now.segments.now settings c.args.part.now.changes.now texts text start c.fetch_all.new.captures.ports.items c.fetch_all.new.captures.underlay (turns_behind g w.In_default-fetch_all) (state_of c.args.taker.now.endpoint) begun _ all_ready first at is.state_is cut c.in-Err-put_cuts_among.target run lines;
+            seen = seen_lines (g.S.Sieve.taken c.args.sieve.now (settings_told settings) c.args.part.now.changes.now) (g.S.Sieve.none c.args.sieve.now (settings_told settings) c.args.part.now.changes.now) c.args.part.now.segments.now settings c.args.part.now.changes.now texts text start c.fetch_all.new.captures.ports.items c.fetch_all.new.captures.underlay (turns_behind g w.In_default-fetch_all) (state_of c.args.taker.now.endpoint) begun _ all_ready first at is.state_is
+                g.T.Watch.sees g.T.Watch.ends c.args.watch.now cut c.in-Err-put_cuts_among.target c.put_events.new.watch on.watched lines;
             went = tt;
           };
     }

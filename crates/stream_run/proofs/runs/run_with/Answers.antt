@@ -3,6 +3,8 @@ use Rattle.timeline.specs.declared.event.Event.{Event}
 use Rattle.pcap.specs.Source.{Stream}
 use Rattle.overlay.specs.Settings.{Settings}
 use Rattle.overlay.specs.declared.settings.change.TimedChange.{TimedChange}
+use Rattle.endpoint_core.specs.Opened.{settings_told}
+use Rattle.endpoint_core.specs.Settings.{Settings as InForce}
 use Rattle.endpoint_core.specs.Step.{State}
 use Rattle.capture_run.specs.declared.fault.RunFault.TheVariants as faults
 use Rattle.segment_set.specs.Segments.{Segments}
@@ -16,7 +18,7 @@ use Rattle.stream_run.proofs.Overall.{over_wanting, reach_wanting, seen_wanting,
 use Rattle.stream_run.proofs.runs.run_with.Goals as goal
 
 -- nothing was opened, for want of memory
-unopened : (segments : Segments) {S T : Type 0} (taken : S → List Event → List Event) (nothing : (s : S) → taken s [] ≡ []) (goes : S → Event → S → Type 0) (sees : T → Sight → T → Type 0) (ends : T → State → T → Type 0) (s : Settings) (changes : List TimedChange) (ports : List Stream) (underlay : Stream) (start : Drains) (sieve : S) (watch : T)
+unopened : (segments : Segments) {S T : Type 0} (taken : S → InForce → List TimedChange → List Event → List Event) (nothing : (s : S) (settings : InForce) (changes : List TimedChange) → taken s settings changes [] ≡ []) (goes : S → InForce → List TimedChange → Event → S → Type 0) (sees : T → Sight → T → Type 0) (ends : T → State → T → Type 0) (s : Settings) (changes : List TimedChange) (ports : List Stream) (underlay : Stream) (start : Drains) (sieve : S) (watch : T)
     → length start.ports ≡ length ports → length ports ≡ length s.ports → IsDone segments taken goes sees ends s changes ports underlay ports underlay start start sieve sieve watch watch (Err (stream.Run faults.OutOfMemory))
 unopened segments taken nothing goes sees ends s changes ports underlay start sieve watch sinks many = record {
   left = inl refl;
@@ -24,9 +26,9 @@ unopened segments taken nothing goes sees ends s changes ports underlay start si
   over = λ texts text tells.
       let none = none_at start (length texts) (sinks ∙ tells_texts ports underlay texts text tells) in
       record {
-        left = over_wanting (taken sieve) (nothing sieve) segments s changes texts text start start refl none;
-        reached = reach_wanting (taken sieve) (nothing sieve) segments s changes texts text start start ports underlay refl none;
-        seen = seen_wanting (taken sieve) (nothing sieve) segments s changes texts text start start sees ends watch refl none;
+        left = over_wanting (taken sieve (settings_told s) changes) (nothing sieve (settings_told s) changes) segments s changes texts text start start refl none;
+        reached = reach_wanting (taken sieve (settings_told s) changes) (nothing sieve (settings_told s) changes) segments s changes texts text start start ports underlay refl none;
+        seen = seen_wanting (taken sieve (settings_told s) changes) (nothing sieve (settings_told s) changes) segments s changes texts text start start sees ends watch refl none;
         went = tt;
       };
 }

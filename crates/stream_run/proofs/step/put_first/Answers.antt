@@ -1,6 +1,7 @@
 use Rattle.std.proofs.Common.{◌≡◌, ◌∙◌, ◌+◌, ◌-◌, ◌^◌, ℕ, ap, arith, length, refl, slice_index_or, subst, sym, None, Some}
 use Rattle.endpoint_core.specs.Kept.{state_of}
 use Rattle.stream_run.specs.Fault.{fault_of}
+use Rattle.stream_run.specs.Sieved.{GoesBy, asked as asks, taken_by}
 use Rattle.stream_run.specs.Steps.{moment_at}
 use Rattle.stream_run.specs.Turns.{first_of}
 use Rattle.stream_run.specs.declared.turn.Turn.{Turn}
@@ -43,12 +44,12 @@ fetch_at-requires-clause-open g c = (next_up c.args.coming.part.now.changes.now 
 
 pub returns-in-Err-clause-step : goal.returns-in-Err-clause-step
 returns-in-Err-clause-step g c tap t at =
-    rw c.in-Err.ensures.turns (shown_put c.args.coming.part.now.segments.now g.S.Sieve.taken g.S.Sieve.goes g.T.Watch.sees c.args.coming.part.now.changes.now c.args.captures.now.ports.items c.args.captures.now.underlay c.args.taker.now.turns.items (state_of c.args.taker.now.endpoint) c.args.taker.now.scratch.number _ (first_of c.args.coming.next) _ c.let_in.new.taker.scratch.number (state_of c.let_in.new.taker.endpoint) _ c.args.sieve.now c.let_in.new.sieve c.args.watch.now c.let_in.new.watch (2 ^ 64 - 3) c.in-Err.target
+    rw c.in-Err.ensures.turns (shown_put c.args.coming.part.now.segments.now (taken_by g.S.Sieve.taken c.args.coming.part.now.changes.now) (GoesBy g.S.Sieve.goes c.args.coming.part.now.changes.now) g.T.Watch.sees c.args.coming.part.now.changes.now c.args.captures.now.ports.items c.args.captures.now.underlay c.args.taker.now.turns.items (state_of c.args.taker.now.endpoint) c.args.taker.now.scratch.number _ (first_of c.args.coming.next) _ c.let_in.new.taker.scratch.number (state_of c.let_in.new.taker.endpoint) _ (asks c.args.sieve.now (state_of c.args.taker.now.endpoint).bridges.settings) (asks c.let_in.new.sieve (state_of c.let_in.new.taker.endpoint).bridges.settings) c.args.watch.now c.let_in.new.watch (2 ^ 64 - 3) c.in-Err.target
     no_turn c.requires.ready c.requires.first c.requires.done c.in-Err.ensures.sieved)
 
 pub returns-in-Err-fetch_at-clause-step : goal.returns-in-Err-fetch_at-clause-step
 returns-in-Err-fetch_at-clause-step g c tap t at =
-    rw c.in_default.ensures.turns (shown_fault c.args.coming.part.now.segments.now g.S.Sieve.taken g.S.Sieve.goes g.T.Watch.sees c.args.coming.part.now.changes.now c.args.captures.now.ports.items c.args.captures.now.underlay c.args.taker.now.turns.items (state_of c.args.taker.now.endpoint) c.args.taker.now.scratch.number _ (first_of c.args.coming.next) _ c.let_in.new.taker.scratch.number (state_of c.let_in.new.taker.endpoint) _ c.args.sieve.now c.let_in.new.sieve c.args.watch.now c.let_in.new.watch (2 ^ 64 - 3)
+    rw c.in_default.ensures.turns (shown_fault c.args.coming.part.now.segments.now (taken_by g.S.Sieve.taken c.args.coming.part.now.changes.now) (GoesBy g.S.Sieve.goes c.args.coming.part.now.changes.now) g.T.Watch.sees c.args.coming.part.now.changes.now c.args.captures.now.ports.items c.args.captures.now.underlay c.args.taker.now.turns.items (state_of c.args.taker.now.endpoint) c.args.taker.now.scratch.number _ (first_of c.args.coming.next) _ c.let_in.new.taker.scratch.number (state_of c.let_in.new.taker.endpoint) _ (asks c.args.sieve.now (state_of c.args.taker.now.endpoint).bridges.settings) (asks c.let_in.new.sieve (state_of c.let_in.new.taker.endpoint).bridges.settings) c.args.watch.now c.let_in.new.watch (2 ^ 64 - 3)
     c.fetch_at.new.captures.ports.items c.fetch_at.new.captures.underlay (fault_of tap ((slice_index_or c.args.taker.now.turns.items c.args.coming.next.index t).done + 1 + 1) c.in-Err-fetch_at.fault) no_turn c.requires.ready c.requires.first
     c.requires.done c.in_default.ensures.sieved
     (fault_from c.args.coming.part.now.changes.now c.args.coming.next.index _ c.args.coming.next.moment c.args.captures.now.ports.items c.args.captures.now.underlay c.fetch_at.new.captures.ports.items c.fetch_at.new.captures.underlay c.fetch_at.new.when c.in-Err-fetch_at.fault tap _ (length c.args.captures.now.ports.items) (sym (ap (λ (d : ℕ). fault_of tap (d + 1 + 1) c.in-Err-fetch_at.fault) (c.requires.done t))) at refl c.in-Err-fetch_at.ensures.fetched))
@@ -61,7 +62,7 @@ at-requires g c =
 
 pub returns-clause-step : goal.returns-clause-step
 returns-clause-step g c =
-    rw c.in_default.ensures.turns (shown_turn c.args.coming.part.now.segments.now g.S.Sieve.taken g.S.Sieve.goes g.T.Watch.sees c.args.coming.part.now.changes.now c.args.captures.now.ports.items c.args.captures.now.underlay c.args.taker.now.turns.items (state_of c.args.taker.now.endpoint) c.args.taker.now.scratch.number _ (first_of c.args.coming.next) _ c.let_in.new.taker.scratch.number (state_of c.let_in.new.taker.endpoint) _ c.args.sieve.now c.let_in.new.sieve c.args.watch.now c.let_in.new.watch (2 ^ 64 - 3)
+    rw c.in_default.ensures.turns (shown_turn c.args.coming.part.now.segments.now (taken_by g.S.Sieve.taken c.args.coming.part.now.changes.now) (GoesBy g.S.Sieve.goes c.args.coming.part.now.changes.now) g.T.Watch.sees c.args.coming.part.now.changes.now c.args.captures.now.ports.items c.args.captures.now.underlay c.args.taker.now.turns.items (state_of c.args.taker.now.endpoint) c.args.taker.now.scratch.number _ (first_of c.args.coming.next) _ c.let_in.new.taker.scratch.number (state_of c.let_in.new.taker.endpoint) _ (asks c.args.sieve.now (state_of c.args.taker.now.endpoint).bridges.settings) (asks c.let_in.new.sieve (state_of c.let_in.new.taker.endpoint).bridges.settings) c.args.watch.now c.let_in.new.watch (2 ^ 64 - 3)
     c.fetch_at.new.captures.ports.items c.fetch_at.new.captures.underlay _ no_turn c.requires.ready c.requires.first
     c.requires.done c.in_default.ensures.sieved
     (fetched_to c.args.coming.part.now.changes.now c.args.coming.next.index _ c.args.coming.next.moment c.args.captures.now.ports.items c.args.captures.now.underlay c.fetch_at.new.captures.ports.items c.fetch_at.new.captures.underlay c.fetch_at.new.when c.at.result c.at.ensures c.in_default-fetch_at.ensures.fetched))

@@ -1,63 +1,46 @@
-use Rattle.std.proofs.Common.{◌≡◌, true, false, ◌∙◌, ap, sym, subst, refl, inl, ◌+◌, ℕ}
-use Rattle.timeline.specs.declared.event.Event.{Event}
-use Rattle.timeline.specs.declared.event.Happening.TheVariants as happenings
+use Rattle.std.proofs.Common.{◌≡◌, ◌∙◌, true, false, ap, sym, subst, ℕ}
 use Rattle.overlay.specs.declared.settings.change.Change.{Change}
+use Rattle.timeline.specs.declared.event.Happening.{Happening}
+use Rattle.endpoint_core.specs.Among.{after_untold_input, is_told, segment_in}
 use Rattle.endpoint_core.specs.Change.{named}
-use Rattle.endpoint_core.specs.Among.{is_told}
-use Rattle.endpoint_core.specs.Event.{change_at}
-use Rattle.segment_set.specs.Segments.{holds}
-use Rattle.capture_run.specs.Outputs.{event_of, named_by}
-use Rattle.stream_run.specs.Steps.{changes_of}
-use Rattle.stream_run.proofs.Amidst.{put_at_line}
-use Rattle.stream_run.proofs.Taking.{after_not_told, after_told, puts_nothing, puts_told, seen_told, seen_untold}
+use Rattle.endpoint_core.specs.Event.{Event as Asked, change_at}
 use Rattle.endpoint_core.specs.Kept.{state_of}
 use Rattle.endpoint_core.specs.Step.{after, answer}
-use Rattle.capture_run.specs.Writing.{with_input}
+use Rattle.segment_set.specs.Segments.{holds}
+use Rattle.capture_run.specs.Outputs.{event_of, input_of, named_by}
 use Rattle.capture_run.proofs.Changes.{change_there}
-use Rattle.stream_run.specs.Sights.{answered, due, untold}
-use Rattle.stream_run.specs.Stage.{Lead}
+use Rattle.stream_run.specs.Sights.{due, untold}
+use Rattle.stream_run.specs.Steps.{changes_of}
+use Rattle.stream_run.proofs.Amidst.{put_at_line}
+use Rattle.stream_run.proofs.Taking.{passed_over, takes_told}
 use Rattle.stream_run.proofs.take.take_change_at.Goals as goal
 
 pub returns-then-not-has-clause-taken : goal.returns-then-not-has-clause-taken
-returns-then-not-has-clause-taken g c ports underlay =
-    let e : Event = record { moment = c.args.next.moment; number = c.args.next.done + 1; happening = happenings.Change c.args.next.done } in
+returns-then-not-has-clause-taken g c =
     let s = state_of c.args.taker.now.endpoint in
-    let there = sym (change_there c.args.part.now.changes.now c.args.next.done c.index-part-next.result c.requires.there) in
-    let asked = event_of (changes_of c.args.part.now.changes.now) e in
-    let away : is_told c.args.part.now.segments.now s asked ≡ false =
-    sym (ap (λ (x : Change). holds c.args.part.now.segments.now (named x)) there) ∙ sym (ap (holds c.args.part.now.segments.now) c.vid-named.ensures) ∙ sym c.has.ensures ∙ c.if-not-has.true in
-    record {
-      taken = record {
-        e = e;
-        next = inl (refl, refl);
-        state = c.make_change.ensures ∙ sym (after_not_told c.args.part.now.segments.now s asked away);
-        outputs = λ start o at. puts_nothing c.args.part.now.segments.now s asked c.args.taker.now.scratch.number (named_by (changes_of c.args.part.now.changes.now) e.happening) e start _ o away at;
-        order = λ start o at. tt;
-      };
-      seen = seen_untold c.args.part.now.segments.now s asked g.T.Watch.sees c.args.taker.now.scratch.number e c.args.watch.now c.pass_over.new.self away
-          (subst (λ (n : ℕ). g.T.Watch.sees c.args.watch.now (untold (due s n e)) c.pass_over.new.self) c.value.ensures c.pass_over.ensures);
-    }
+    let segments = c.args.part.now.segments.now in
+    let changes = c.args.part.now.changes.now in
+    let e = c.args.event.now in
+    let there = sym (change_there changes c.args.index c.index-part-index.result c.requires.there) in
+    let away : is_told segments s (event_of (changes_of changes) e) ≡ false =
+    ap (λ (h : Happening). holds segments (segment_in s.bridges.settings (input_of (changes_of changes) h))) c.requires.is
+    ∙ sym (ap (λ (x : Change). holds segments (named x)) there) ∙ sym (ap (holds segments) c.vid-named.ensures) ∙ sym c.has.ensures ∙ c.if-not-has.true in
+    passed_over segments g.T.Watch.sees changes e c.args.taker.now.scratch.number s (state_of c.make_change.new.endpoint) c.args.outputs.now c.args.outputs.now c.args.watch.now c.pass_over.new.self away
+    (c.make_change.ensures ∙ sym (ap (λ (h : Happening). after_untold_input e.moment s (input_of (changes_of changes) h)) c.requires.is))
+    (subst (λ (n : ℕ). g.T.Watch.sees c.args.watch.now (untold (due s n e)) c.pass_over.new.self) c.value.ensures c.pass_over.ensures)
 
 pub returns-clause-taken : goal.returns-clause-taken
-returns-clause-taken g c ports underlay =
-    let e : Event = record { moment = c.args.next.moment; number = c.args.next.done + 1; happening = happenings.Change c.args.next.done } in
+returns-clause-taken g c =
     let s = state_of c.args.taker.now.endpoint in
-    let first = sym (change_there c.args.part.now.changes.now c.args.next.done c.index-part-next.result c.requires.there) in
-    let there = sym (change_there c.args.part.now.changes.now c.args.next.done c.index-part-next-2.result c.requires.there) in
-    let asked = event_of (changes_of c.args.part.now.changes.now) e in
-    let here : is_told c.args.part.now.segments.now s asked ≡ true =
-    sym (ap (λ (x : Change). holds c.args.part.now.segments.now (named x)) first) ∙ sym (ap (holds c.args.part.now.segments.now) c.vid-named.ensures) ∙ sym c.has.ensures ∙ c.if-not-has.false in
-    let new = c.take_change.new.outputs in
-    record {
-      taken = record {
-        e = e;
-        next = inl (refl, refl);
-        state = c.take_change.ensures.state ∙ ap (λ (x : Change). after s (change_at c.args.next.moment x)) there ∙ sym (after_told c.args.part.now.segments.now s asked here);
-        outputs = λ start o at. puts_told c.args.part.now.segments.now s asked c.args.taker.now.scratch.number (named_by (changes_of c.args.part.now.changes.now) e.happening) e start new o c.take_change.result here
-            (subst (λ (x : Change). Lead start new o (with_input c.args.taker.now.scratch.number (named x) o e (answer s (change_at c.args.next.moment x))) c.take_change.result) there (c.take_change.ensures.outputs start o at));
-        order = λ start o at. put_at_line c.args.taker.now.scratch.number (named_by (changes_of c.args.part.now.changes.now) e.happening) o e (answer s asked) start new c.take_change.result
-            (subst (λ (x : Change). Lead start new o (with_input c.args.taker.now.scratch.number (named x) o e (answer s (change_at c.args.next.moment x))) c.take_change.result) there (c.take_change.ensures.outputs start o at));
-      };
-      seen = seen_told c.args.part.now.segments.now s asked g.T.Watch.sees c.args.taker.now.scratch.number e c.args.watch.now c.take_change.new.watch here
-          (subst (λ (x : Change). g.T.Watch.sees c.args.watch.now (answered (due s c.args.taker.now.scratch.number e) (answer s (change_at c.args.next.moment x))) c.take_change.new.watch) there c.take_change.ensures.seen);
-    }
+    let segments = c.args.part.now.segments.now in
+    let changes = c.args.part.now.changes.now in
+    let e = c.args.event.now in
+    let first = sym (change_there changes c.args.index c.index-part-index.result c.requires.there) in
+    let there = sym (change_there changes c.args.index c.index-part-index-2.result c.requires.there) in
+    let told : is_told segments s (event_of (changes_of changes) e) ≡ true =
+    ap (λ (h : Happening). holds segments (segment_in s.bridges.settings (input_of (changes_of changes) h))) c.requires.is
+    ∙ sym (ap (λ (x : Change). holds segments (named x)) first) ∙ sym (ap (holds segments) c.vid-named.ensures) ∙ sym c.has.ensures ∙ c.if-not-has.false in
+    let asks = ap (λ (h : Happening). let a : Asked = record { at = e.moment; input = input_of (changes_of changes) h } in a) c.requires.is ∙ ap (change_at e.moment) (sym there) in
+    takes_told segments g.T.Watch.sees changes e c.args.taker.now.scratch.number s (state_of c.take_change.new.endpoint) c.args.outputs.now c.take_change.new.outputs c.args.watch.now c.take_change.new.watch _ _ c.take_change.result
+    told (ap (answer s) asks) (ap (named_by (changes_of changes)) c.requires.is ∙ ap named (sym there)) (c.take_change.ensures.state ∙ sym (ap (after s) asks))
+    c.take_change.ensures.outputs (λ start o at. put_at_line c.args.taker.now.scratch.number _ o e _ start c.take_change.new.outputs c.take_change.result (c.take_change.ensures.outputs start o at)) c.take_change.ensures.seen

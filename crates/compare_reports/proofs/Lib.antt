@@ -1,0 +1,6 @@
+mod Comparing
+mod Listing
+mod Ordering
+mod Printing
+mod Shifting
+mod Showing

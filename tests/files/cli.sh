@@ -50,7 +50,7 @@ holds() {
 
 # sizes OCTETS..: so many octets stand in decisions.txt, port1.pcap, port2.pcap, port3.pcap and underlay.pcap
 sizes() {
-    [ "$(stat -c %s "$folder"/out/* | tr '\n' ' ')" = "$* " ] || complain "sizes in out: $(stat -c '%n %s' "$folder"/out/*)"
+    [ "$(stat -c %s "$folder"/out/{decisions.txt,*.pcap} | tr '\n' ' ')" = "$* " ] || complain "sizes in out: $(stat -c '%n %s' "$folder"/out/*)"
 }
 
 ./tep >/dev/null || {

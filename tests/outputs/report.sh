@@ -96,7 +96,7 @@ refused 1 "$folder/none: decisions.txt: line 7" -o "$folder/none.html" "$folder/
 [ ! -e "$folder/none.html" ] || complain "a page is made of lines that are none"
 head -c -1 "$folder/every/decisions.txt" >"$folder/none/decisions.txt"
 refused 1 "$folder/none: decisions.txt: line $(wc -l <"$folder/every/decisions.txt")" -o "$folder/none.html" "$folder/none"
-refused 3 "write $folder/every/summary.txt" -o "$folder/every/summary.txt" "$folder/every"
+refused 3 "write $folder/every/summary.txt: it is $folder/every/summary.txt itself" -o "$folder/every/summary.txt" "$folder/every"
 refused 3 "write /dev/full: no space left" -o /dev/full "$folder/every"
 refused 3 "write $folder/away/page.html: no such folder" -o "$folder/away/page.html" "$folder/every"
 

@@ -113,6 +113,18 @@ def cells_of_entry(words):
     return words[1:5] + ([words[5], words[7]] if words[4] == "seen" else ["", ""])
 
 
+def sentences():
+    """What docs/REASONS.md says of each reason, by its number: when it holds, and what to look at."""
+    told = {}
+    for line in open("docs/REASONS.md", encoding="utf-8"):
+        cells = [cell.strip() for cell in line.replace("`", "").split("|")]
+        if len(cells) == 6 and cells[1].isdigit():
+            holds, look = cells[3], cells[4]
+            end = f"there is {look.replace('nothing', 'nothing to look at', 1)}" if look.startswith("nothing") else f"look at {look}"
+            told[cells[1]] = f"{holds[0].upper()}{holds[1:]}; {end}."
+    return told
+
+
 def main():
     page_path, summary_path, decisions_path = sys.argv[1:]
     text = open(page_path, "rb").read().decode("utf-8")
@@ -127,6 +139,9 @@ def main():
     decisions = [line.split() for line in open(decisions_path, encoding="utf-8")]
     dropped = {(w[1], w[3], w[4]): w[5] for w in lines if w[0] == "segment" and w[2] == "dropped"}
     same("drops", {tuple(row[:3]): row[3] for row in page.rows_of("drops")}, dropped)
+    reasons = sentences()
+    same("40 reasons", len(reasons), 40)
+    same("what reasons mean", [row[4] for row in page.rows_of("drops")], [reasons[row[1]] for row in page.rows_of("drops")])
     refused = {(w[2], w[3]): w[4] for w in lines if w[:2] == ["change", "refused"]}
     told = {tuple(row[0].split()): row[1] for row in page.rows_of("drops", "Refused changes")}
     same("refused changes", told, refused)

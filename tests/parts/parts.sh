@@ -119,8 +119,8 @@ runs sooner 16-4094,none --both --within 2ms "${both[@]}"
 runs alone 16-4094,none "${both[@]}"
 [ "$(sed -n '/^capture u /{n;p}' "$folder/bidirectional/shard.txt")" = "both 10000000" ] || complain "a part with --both tells no time"
 [ "$(sed -n '/^capture u /{n;p}' "$folder/sooner/shard.txt")" = "both 2000000" ] || complain "a part with --within tells another time"
-[ "$(head -n 1 "$folder/bidirectional/shard.txt")" = "tep shard 3" ] || complain "a part with --both has a text of another version"
-[ "$(head -n 1 "$folder/alone/shard.txt")" = "tep shard 2" ] || complain "a part without --both has a text of another version"
+[ "$(head -n 1 "$folder/bidirectional/shard.txt")" = "tep shard 5" ] || complain "a part with --both has a text of another version"
+[ "$(head -n 1 "$folder/alone/shard.txt")" = "tep shard 4" ] || complain "a part without --both has a text of another version"
 ! grep -q "^both" "$folder/alone/shard.txt" || complain "a part without --both tells a time"
 
 # ---- tables of a part: the lines that the whole run has of its segments, with an entry of each that is fixed
@@ -233,7 +233,7 @@ foreign() {
 # broken FILE FAULT WORDS..: the same where the shard.txt tells of the outputs as they are now
 broken() {
     replaced "$1"
-    case $1 in decisions.txt | *.pcap) tests/lib/part_outputs.py "$folder/broken" ;; esac
+    [ "$1" = shard.txt ] || tests/lib/part_outputs.py "$folder/broken"
     refused 1 "part broken: $2" merge "${@:3}" --out out one broken
 }
 
@@ -264,7 +264,7 @@ turned port2.pcap 30 | foreign port2.pcap "port2.pcap has other octets than shar
 turned port2.pcap 45 | foreign port2.pcap "port2.pcap has other octets than shard.txt says"
 turned port3.pcap 4 | foreign port3.pcap "p3 NotPcap"
 turned decisions.txt 3 | foreign decisions.txt "decisions.txt has other octets than shard.txt says"
-[ "$(ls "$folder/out")" = "$(printf '%s\n' decisions.txt port1.pcap port2.pcap port3.pcap underlay.pcap)" ] ||
+[ "$(ls "$folder/out")" = "$(printf '%s\n' decisions.txt port1.pcap port2.pcap port3.pcap underlay.pcap unfinished.txt)" ] ||
     complain "a merge of other octets leaves $(ls "$folder/out")"
 rm -f "$folder"/out/*
 sed 's/^\(output p2\) [0-9]*/\1 9/' "$folder/other/shard.txt" |
@@ -273,6 +273,10 @@ sed 's/^\(output u\) [0-9]*/\1 9/' "$folder/other/shard.txt" |
     foreign shard.txt "decisions.txt tells another number of records of underlay.pcap than shard.txt says"
 sed 's/^\(output decisions\) [0-9]*/\1 9/' "$folder/other/shard.txt" |
     foreign shard.txt "decisions.txt has another number of lines than shard.txt says"
+
+# Accidents that are even: the highest bits of two words, or of all of them, as a line leaves them that is stuck, and blocks of
+# 512 octets exchanged that are 2,048 apart. The capture is long enough for that: each frame has its number in its end.
+python3 tests/parts/accidents.py "$folder" || complain "tests/parts/accidents.py: status $?"
 
 # A whole run over a part's folder leaves no shard.txt; with the part's own beside its outputs it is refused.
 cp -r "$folder/other" "$folder/over"
@@ -300,15 +304,17 @@ cp "$folder/other/shard.txt" "$folder/over/shard.txt"
 refused 1 "part over: decisions.txt has other octets than shard.txt says" merge --out out one over
 rm -f "$folder"/out/*
 
-# The version before, which told nothing of its outputs, and other texts that are no such record.
-sed -e '1s/2$/1/' -e '/^output /d' "$folder/other/shard.txt" |
-    foreign shard.txt "shard.txt: it is of version 1 and tells nothing of the part's outputs: run the part again"
+# The versions before, of which the first told nothing of its outputs, and other texts that are no such record.
+for version in 1 2 3; do
+    sed "1s/4$/$version/" "$folder/other/shard.txt" |
+        foreign shard.txt "shard.txt: it is of an older version, whose sums tell too little of the part's outputs: run the part again"
+done
 sed '/^output p3 /d' "$folder/other/shard.txt" |
     foreign shard.txt "shard.txt: the line of an output is missing, out of place or has no four numbers"
 sed 's/^output u /output u 0/' "$folder/other/shard.txt" |
     foreign shard.txt "shard.txt: the line of an output is missing, out of place or has no four numbers"
 { cat "$folder/other/shard.txt" && echo; } | foreign shard.txt "shard.txt: something stands behind the line of the last output"
-broken shard.txt "shard.txt: the first line is not 'tep shard 2'" </dev/null
+broken shard.txt "shard.txt: the first line is not 'tep shard 4'" </dev/null
 sed 's/^segments .*/segments 16-4094,nothing/' "$folder/other/shard.txt" |
     broken shard.txt "shard.txt: an item of the list is no VID of 1 to 4094, no range of them and not 'none'"
 sed 's/^events .*/events 07/' "$folder/other/shard.txt" |
@@ -401,11 +407,24 @@ sed 's/^segment 20 /segment 020 /' "$folder/other/tables.txt" | broken tables.tx
 { cat "$folder/other/tables.txt" && echo; } | broken tables.txt "tables.txt: line 2" --tables
 head -c -1 "$folder/other/tables.txt" | broken tables.txt "tables.txt: line 1" --tables
 
+# Texts that the part didn't leave: emptied or cut at a line they are such texts, and have other sums.
+: | foreign tables.txt "tables.txt has other octets than shard.txt says" --tables
+: | foreign summary.txt "summary.txt has other octets than shard.txt says" --summary
+head -n 3 "$folder/other/summary.txt" | foreign summary.txt "summary.txt has other octets than shard.txt says" --summary
+rm -rf "$folder/broken"
+cp -r "$folder/other" "$folder/broken"
+rm "$folder/broken/tables.txt"
+refused 1 "part broken: it has no tables.txt" merge --tables --out out one broken
+cp "$folder/other/tables.txt" "$folder/broken"
+sed -i '/^text tables /d' "$folder/broken/shard.txt"
+refused 1 "part broken: it has no tables.txt" merge --tables --out out one broken
+
 # Counts are added up also where they are as great as they can be.
 mkdir "$folder/added"
 rm -rf "$folder/broken"
 cp -r "$folder/other" "$folder/broken"
 sed -i 's/^place p1 in .*/place p1 in 18446744073709551615 18446744073709551614/' "$folder/broken/summary.txt"
+tests/lib/part_outputs.py "$folder/broken"
 ./tep merge --summary --out "$folder/added" "$folder/one" "$folder/broken" |
     grep -qx "place p1 in 18446744073709551615 18446744073709551615" ||
     complain "counts aren't added up to the greatest"
@@ -559,7 +578,7 @@ wait $!
 [ -e "$folder/growing/shard.txt" ] && [ ! -s "$folder/growing/shard.txt" ] ||
     complain "the shard.txt of a part whose capture grew tells something"
 runs grown 1-15 "${growing[@]}"
-refused 1 "part growing: shard.txt: the first line is not 'tep shard 2'" merge --out out growing grown
+refused 1 "growing: a run into it is under way or didn't end" merge --out out growing grown
 
 # ---- what an earlier part left of itself goes before its outputs change
 

@@ -10,6 +10,7 @@ use program_files::{FailedOutput, file_of, is_same, path_of, read_fault};
 use std::alloc::AllocError;
 use std::fs;
 use std::io::ErrorKind;
+use std::path::Path;
 use std::rt::Files;
 
 /// The texts of a part that a merge reads first.
@@ -80,17 +81,27 @@ fn tell_unread<R: Files + AllocGlobal + Eprint>(
 /// Tells why a capture can't be read.
 fn tell_unread_capture<R: Files + Eprint>(rt: &R, name: &str) {
     let path = file_of(name);
+    if capture_name(name).file == STANDARD_INPUT {
+        if is_closed(rt, path) {
+            let _ = eprintln!(rt; "  standard input is closed");
+        }
+        return;
+    }
     let Some(fault) = read_fault(rt, path) else {
         return;
     };
-    if capture_name(name).file == STANDARD_INPUT {
-        let _ = eprintln!(rt; "  standard input is closed");
-        return;
-    }
     tell_fault(rt, path, fault);
     if path != name && fs::metadata(rt, name).is_ok() {
         let whole = OneLine(name);
         let _ = eprintln!(rt; "  {whole} is a file: {whole}# names it");
+    }
+}
+
+/// Whether standard input is closed: whether nothing stands there, or what the program put in its place, which can't be read.
+fn is_closed<R: Files>(rt: &R, path: &str) -> bool {
+    match fs::metadata(rt, path) {
+        Ok(found) => is_same(rt, Path::new("/dev/null"), &found),
+        Err(_) => true,
     }
 }
 

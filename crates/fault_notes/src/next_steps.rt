@@ -4,7 +4,7 @@ use crate::named::capture_at;
 use capture_run::RunFault;
 use command_line::{Line, STANDARD_INPUT, capture_name};
 use part_record::{PartRecordFault, PartingFault};
-use program_faults::{DigestsFailure, Failure, OneLine, OutputFile, PartFailure};
+use program_faults::{DigestsFailure, Failure, OneLine, OutputFile, PartFailure, Quoted};
 use timeline::Tap;
 
 /// Tells what to do next about a fault, where there is one thing to do.
@@ -19,6 +19,10 @@ pub fn tell_next_step<R: Eprint>(rt: &R, line: &Line<'_>, failure: &Failure<'_>)
             rt,
             "tep digest, over the same captures as files, makes the digests: tep digest -u U P1 P2 .. >digests.txt",
         ),
+        Failure::OneFile(OutputFile::Stdout, _) => tell(rt, "print into a file that no output is"),
+        Failure::OneFile(..) => tell(rt, "remove one of them: it is a link of the other"),
+        Failure::ReadAgain(_) => tell(rt, "give the part a folder of its own"),
+        Failure::Unended(_) => tell(rt, "wait for it, or run it again"),
         Failure::Digests(_, fault) => tell(rt, for_digests(fault)),
         Failure::Part(_, fault) => tell_part(rt, line, fault),
         Failure::Parting(fault) => tell(rt, for_parting(fault)),
@@ -60,8 +64,9 @@ fn tell_record(rt: &impl Eprint, line: &Line<'_>, tap: Tap, number: u64) {
         return;
     }
     let shown = OneLine(parted.file);
+    let file = Quoted(parted.file);
     let _ = eprintln!(rt;
-        "  {shown}: record {number} is damaged: editcap -F nsecpcap -r {shown} OUT 1-{before} keeps those before"
+        "  {shown}: record {number} is damaged: editcap -F nsecpcap -r {file} OUT 1-{before} keeps those before"
     );
 }
 
@@ -73,8 +78,8 @@ fn tell_folder(rt: &impl Eprint, line: &Line<'_>) {
         _ => None,
     };
     if let Some(folder) = folder {
-        let shown = OneLine(folder);
-        let _ = eprintln!(rt; "  mkdir {shown}");
+        let folder = Quoted(folder);
+        let _ = eprintln!(rt; "  mkdir {folder}");
     }
 }
 
@@ -97,6 +102,7 @@ fn tell_part(rt: &impl Eprint, line: &Line<'_>, fault: &PartFailure) {
         // Its own words say it.
         PartFailure::Record(PartRecordFault::Older) => {}
         PartFailure::Other(_) => tell_other(rt, line),
+        PartFailure::LinesOnce => tell(rt, "keep its lines in a file, and merge again"),
         _ => tell(rt, "run the part again"),
     }
 }

@@ -1,10 +1,13 @@
 //! What parts of a run say of themselves, and whether they are so.
 use octet_sums::fletcher::OctetSum;
 use part_record::{
-    OutputFacts, PartRecord, PartRecordFault, ToldOutputs, part_all, record_of, same_run,
+    OutputFacts, PartRecord, PartRecordFault, ToldOutputs, ToldRecord, ToldTexts, part_all,
+    record_of, same_run,
 };
 use program_faults::{Failure, OutputFile, PartFailure, read_text};
-use program_files::{PartLines, count_lines, is_as_told, may_have_octets, open_part_file};
+use program_files::{
+    PartLines, count_lines, is_as_told, is_read_again, may_have_octets, open_part_file, see_ended,
+};
 use segment_set::SegmentSet;
 use std::alloc::AllocError;
 use std::rt::Files;
@@ -13,6 +16,20 @@ use timeline::Tap;
 
 /// How many reads are made of a text of what a part was made from, at most.
 const TEXT_READS: u64 = 4_096;
+
+/// Refuses a folder into which a run is under way or didn't end, and decision lines that can be read only once.
+pub fn see_folders<'a, R: Files + AllocGlobal>(
+    rt: &R,
+    folders: &[&'a str],
+) -> Result<(), Failure<'a>> {
+    for folder in folders {
+        see_ended(rt, *folder)?;
+        if !is_read_again(rt, *folder, OutputFile::Decisions)? {
+            return Err(Failure::Part(*folder, PartFailure::LinesOnce));
+        }
+    }
+    Ok(())
+}
 
 /// The texts that say what the parts were made from.
 pub fn read_records<'a, R: Files + AllocGlobal>(
@@ -45,6 +62,8 @@ pub struct Looked {
     pub segments: Vec<SegmentSet>,
     /// What each part says of its outputs.
     pub outputs: Vec<ToldOutputs>,
+    /// And of the texts that it left.
+    pub texts: Vec<ToldTexts>,
 }
 
 /// Sees that these are the parts of one run and all of it, and that each has the lines and as many octets as it says.
@@ -56,12 +75,16 @@ pub fn look_at<'a, R: Files + AllocGlobal>(
     let mut first: Option<PartRecord<'_>> = None;
     let mut sets = Vec::new(rt.alloc());
     let mut outputs = Vec::new(rt.alloc());
+    let mut left = Vec::new(rt.alloc());
     for (folder, text) in folders.iter().zip(texts) {
-        let (found, told, segments) = match read_record(text.as_slice()) {
+        let ((found, told, texts), segments) = match read_record(text.as_slice()) {
             Ok(read) => read,
             Err(fault) => return Err(Failure::Part(*folder, fault)),
         };
-        if sets.push(segments).is_err() || outputs.push(told).is_err() {
+        if sets.push(segments).is_err()
+            || outputs.push(told).is_err()
+            || left.push(texts).is_err()
+        {
             return Err(Failure::from(AllocError));
         }
         match &first {
@@ -86,20 +109,21 @@ pub fn look_at<'a, R: Files + AllocGlobal>(
         ports: first.map_or(0, |found| found.ports.len()),
         segments: sets,
         outputs,
+        texts: left,
     })
 }
 
-/// What a part was made from, what it says of its outputs, and its segments.
-fn read_record(text: &[u8]) -> Result<(PartRecord<'_>, ToldOutputs, SegmentSet), PartFailure> {
+/// What a part was made from, what it says of its files, and its segments.
+fn read_record(text: &[u8]) -> Result<(ToldRecord<'_>, SegmentSet), PartFailure> {
     let Ok(text) = str::from_utf8(text) else {
         return Err(PartFailure::Record(PartRecordFault::Head));
     };
-    let (found, outputs) = match record_of(text) {
-        Ok(found) => found,
+    let record = match record_of(text) {
+        Ok(record) => record,
         Err(fault) => return Err(PartFailure::Record(fault)),
     };
-    match SegmentSet::parse(found.segments) {
-        Ok(segments) => Ok((found, outputs, segments)),
+    match SegmentSet::parse(record.0.segments) {
+        Ok(segments) => Ok((record, segments)),
         Err(fault) => Err(PartFailure::List(fault)),
     }
 }
@@ -110,7 +134,7 @@ fn see_lines<'a, R: Files + AllocGlobal>(
     folder: &'a str,
     text: &[u8],
 ) -> Result<(), Failure<'a>> {
-    let (found, outputs, _) = match read_record(text) {
+    let ((found, outputs, _), _) = match read_record(text) {
         Ok(read) => read,
         Err(fault) => return Err(Failure::Part(folder, fault)),
     };
@@ -173,7 +197,8 @@ pub fn output_at(index: usize) -> OutputFile {
     }
 }
 
-/// Sees that the outputs of the part in this folder have the sums that are told of them.
+/// Sees that the outputs of the part in this folder have the sums that are told of them. One that can be read only once isn't
+/// opened again.
 fn see_sums<'a, R: Files + AllocGlobal>(
     rt: &R,
     folder: &'a str,
@@ -181,6 +206,9 @@ fn see_sums<'a, R: Files + AllocGlobal>(
 ) -> Result<(), Failure<'a>> {
     for (index, told) in outputs.iter().enumerate() {
         let output = output_at(index);
+        if !is_read_again(rt, folder, output)? {
+            continue;
+        }
         match is_as_told(rt, folder, output, told.sum) {
             Ok(true) => {}
             Ok(false) => return Err(Failure::Part(folder, PartFailure::Sums(output))),

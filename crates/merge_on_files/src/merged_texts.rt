@@ -1,8 +1,10 @@
 //! What the parts of a run told, as the whole run tells it.
+use crate::looking::Looked;
+use octet_sums::fletcher::OctetSum;
+use part_record::ToldTexts;
 use program_faults::{Failure, OutputFile, PartFailure, read_text};
-use program_files::{open_part_file, path_of};
+use program_files::{open_part_file, path_of, sum_of};
 use run_counts::parts::{ReportFault, Summary, TablesFault, rows_in, tables_of};
-use segment_set::SegmentSet;
 use std::alloc::AllocError;
 use std::fs;
 use std::io::ErrorKind;
@@ -21,6 +23,13 @@ pub struct TextsAsked {
     pub summary: bool,
 }
 
+impl TextsAsked {
+    /// Whether one of them is asked for.
+    pub fn is_any(self) -> bool {
+        self.tables || self.summary
+    }
+}
+
 /// What the whole run tells besides its outputs; empty, where it isn't asked for.
 #[derive(Drop)]
 pub struct MergedTexts {
@@ -28,16 +37,16 @@ pub struct MergedTexts {
     pub summary: Vec<u8>,
 }
 
-/// What the parts in these folders, of these segments each, told of a run on so many ports, put together.
+/// What the parts in these folders, of which this was seen, told of a run on so many ports, put together.
 pub fn merge_texts<'a, R: Files + AllocGlobal>(
     rt: &R,
     folders: &[&'a str],
-    segments: &[SegmentSet],
+    looked: &Looked,
     ports: u8,
     asked: TextsAsked,
 ) -> Result<MergedTexts, Failure<'a>> {
     let tables = if asked.tables {
-        match merge_tables(rt, folders, segments) {
+        match merge_tables(rt, folders, looked) {
             Ok(text) => text,
             Err(failure) => return Err(failure),
         }
@@ -45,7 +54,7 @@ pub fn merge_texts<'a, R: Files + AllocGlobal>(
         Vec::new(rt.alloc())
     };
     let summary = if asked.summary {
-        match merge_summaries(rt, folders, ports) {
+        match merge_summaries(rt, folders, looked.texts.as_slice(), ports) {
             Ok(text) => text,
             Err(failure) => return Err(failure),
         }
@@ -59,11 +68,11 @@ pub fn merge_texts<'a, R: Files + AllocGlobal>(
 fn merge_tables<'a, R: Files + AllocGlobal>(
     rt: &R,
     folders: &[&'a str],
-    segments: &[SegmentSet],
+    looked: &Looked,
 ) -> Result<Vec<u8>, Failure<'a>> {
     let mut texts = Vec::new(rt.alloc());
-    for folder in folders {
-        let text = match read_left(rt, *folder, OutputFile::Tables) {
+    for (folder, told) in folders.iter().zip(&looked.texts) {
+        let text = match read_left(rt, *folder, OutputFile::Tables, told.tables) {
             Ok(text) => text,
             Err(failure) => return Err(failure),
         };
@@ -72,7 +81,7 @@ fn merge_tables<'a, R: Files + AllocGlobal>(
         }
     }
     let mut rows = Vec::new(rt.alloc());
-    for ((folder, text), segments) in folders.iter().zip(&texts).zip(segments) {
+    for ((folder, text), segments) in folders.iter().zip(&texts).zip(&looked.segments) {
         let more = match rows_in(rt.alloc(), text.as_slice(), segments) {
             Ok(more) => more,
             Err(TablesFault::OutOfMemory) => return Err(Failure::from(AllocError)),
@@ -89,12 +98,13 @@ fn merge_tables<'a, R: Files + AllocGlobal>(
 fn merge_summaries<'a, R: Files + AllocGlobal>(
     rt: &R,
     folders: &[&'a str],
+    told: &[ToldTexts],
     ports: u8,
 ) -> Result<Vec<u8>, Failure<'a>> {
     let mut all = Summary::none(rt.alloc())?;
     let mut passed = TunnelTables::none(rt.alloc())?;
-    for folder in folders {
-        let text = match read_left(rt, *folder, OutputFile::Summary) {
+    for (folder, told) in folders.iter().zip(told) {
+        let text = match read_left(rt, *folder, OutputFile::Summary, told.summary) {
             Ok(text) => text,
             Err(failure) => return Err(failure),
         };
@@ -152,12 +162,16 @@ fn add_tunnels<'a, R: AllocGlobal>(
     }
 }
 
-/// A text that the part in this folder left.
+/// A text that the part in this folder left, of which these sums are told.
 fn read_left<'a, R: Files + AllocGlobal>(
     rt: &R,
     folder: &'a str,
     output: OutputFile,
+    told: Option<OctetSum>,
 ) -> Result<Vec<u8>, Failure<'a>> {
+    let Some(told) = told else {
+        return Err(Failure::Part(folder, PartFailure::Lacks(output)));
+    };
     let path = path_of(rt.alloc(), folder, output)?;
     if let Err(error) = fs::metadata(rt, path.as_path()) {
         if error.kind() == ErrorKind::NotFound {
@@ -169,7 +183,8 @@ fn read_left<'a, R: Files + AllocGlobal>(
         Err(failure) => return Err(failure),
     };
     match read_text(rt.alloc(), &mut input, TEXT_READS) {
-        Ok(text) => Ok(text),
+        Ok(text) if sum_of(text.as_slice()).is_same(told) => Ok(text),
+        Ok(_) => Err(Failure::Part(folder, PartFailure::Sums(output))),
         Err(fault) => Err(Failure::reading(folder, fault)),
     }
 }

@@ -1,30 +1,31 @@
 //! Parts of a run made the whole run.
 ghost use Rattle.std.specs.Prelude.{◌≤◌};
 
-use crate::looking::{Looked, look_at, output_at, read_failure, read_records};
+use crate::looking::{Looked, look_at, output_at, read_failure, read_records, see_folders};
 use crate::merged_texts::{MergedTexts, TextsAsked, merge_texts};
 use crate::opening::{may_wait, open_parts};
 use part_merge::{MergeFault, Target, merge_streams};
 use part_record::{MOST_PORTS, ToldOutputs};
 use program_faults::{Failure, OutputFile};
-use program_files::{FailedOutputs, FoundFiles, drop_part, open_outputs, path_of, see_room};
+use program_files::{Apart, FailedOutputs, Mark, drop_part, open_outputs, path_of, see_room};
 use std::alloc::AllocError;
-use std::fs;
 use std::rt::Files;
 use timeline::Tap;
 
 /// Puts the parts in these folders together, and writes the whole run into a folder. It answers what the whole run tells
 /// besides, as far as that is asked for.
 ///
-/// Where they aren't all parts of one run, what they told isn't there or is no such text, an output is one of their files, or
-/// more files would be open at once than the system lets be (of less than 200 that isn't tried), nothing is made or written. All
-/// outputs that couldn't be written are noted. Where an output of a part is no regular file, all that was merged goes out before
-/// each read, which may wait.
+/// Where they aren't all parts of one run, the run of one didn't end or is under way, what they told isn't there or is no such
+/// text, an output is one of their files, another output or what standard output is, or more files would be open at once than the
+/// system lets be (of less than 200 that isn't tried), nothing is made or written. All outputs that couldn't be written are
+/// noted, and a mark says that the merge isn't done until it is. Where a capture of a part is no regular file, all that was merged
+/// goes out before each read, which may wait; decision lines have to be one.
 ///
 /// Noticed before an output is made: a `shard.txt` that isn't written as one is; settings, changes or captures with another
 /// digest than those of the first part; a segment, or what comes to none, that isn't in exactly one part's list; and outputs
-/// with another number of events, lines, records or octets than `shard.txt` says. Noticed on the way: what [`merge_streams`]
-/// notices, and an output that was read to its end and has other sums than `shard.txt` says. Each is told with the part's name.
+/// with another number of events, lines, records or octets than `shard.txt` says, and texts with other sums. Noticed on the way:
+/// what [`merge_streams`] notices, and an output that was read to its end and has other sums than `shard.txt` says. Each is told
+/// with the part's name.
 ///
 /// Not noticed: octets or moments of records and words of lines that were changed together with the numbers and sums in
 /// `shard.txt`, or so that the sums stay; lists of segments that were changed there, or exchanged between parts, since no line
@@ -38,25 +39,23 @@ pub fn merge<'a, R: Files + AllocGlobal>(
     asked: TextsAsked,
     failed: &mut FailedOutputs,
 ) -> Result<MergedTexts, Failure<'a>> {
+    see_folders(rt, folders)?;
     let texts = match read_records(rt, folders) {
         Ok(texts) => texts,
         Err(failure) => return Err(failure),
     };
-    let Looked {
-        ports: found,
-        segments,
-        outputs: told_outputs,
-    } = match look_at(rt, folders, texts.as_slice()) {
+    let looked = match look_at(rt, folders, texts.as_slice()) {
         Ok(looked) => looked,
         Err(failure) => return Err(failure),
     };
-    let count = at_most_ports(found);
+    let count = at_most_ports(looked.ports);
     let ports = u8::try_from(count).unwrap_or(u8::MAX);
-    let told = match merge_texts(rt, folders, segments.as_slice(), ports, asked) {
+    let told = match merge_texts(rt, folders, &looked, ports, asked) {
         Ok(told) => told,
         Err(failure) => return Err(failure),
     };
-    spare_parts(rt, out, folders, count)?;
+    let told_outputs = looked.outputs;
+    spare_parts(rt, out, folders, count, asked.is_any())?;
     let waits = may_wait(rt, folders, count);
     let mut parts = match open_parts(rt, folders, told_outputs.as_slice(), count) {
         Ok(parts) => parts,
@@ -65,11 +64,17 @@ pub fn merge<'a, R: Files + AllocGlobal>(
     let inputs = folders.len().saturating_mul(count.saturating_add(2));
     see_room(rt, inputs, count, false, false)?;
     let opened = open_outputs(rt, out, false, count)?;
+    opened.see_apart(rt.alloc())?;
+    let mark = Mark::of(rt.alloc(), out)?;
+    mark.set(rt)?;
     drop_part(rt, out)?;
     let mut outputs = opened.emptied(rt.alloc())?;
     match merge_streams(parts.as_mut_slice(), &mut outputs.files, waits) {
         Ok(()) => match outputs.finish(rt.alloc(), failed) {
-            Ok(_) => Ok(told),
+            Ok(_) => {
+                mark.clear(rt)?;
+                Ok(told)
+            }
             Err(failure) => Err(failure),
         },
         Err(fault) => {
@@ -119,38 +124,36 @@ fn file_at(index: usize, ports: usize) -> OutputFile {
     }
 }
 
-/// Refuses an output that is one of the parts' files, and so a text that a merge takes away.
+/// Refuses an output that is one of the parts' files, and so a text that a merge takes away, another output or, where something is
+/// printed, what standard output is.
 fn spare_parts<'a, R: Files + AllocGlobal>(
     rt: &R,
     out: &str,
     folders: &[&'a str],
     count: usize,
+    prints: bool,
 ) -> Result<(), Failure<'a>> {
-    let inputs = files_of_parts(rt, folders, count)?;
-    for index in 0..count.saturating_add(BESIDE_PORTS) {
-        let path = path_of(rt.alloc(), out, file_at(index, count))?;
-        match fs::metadata(rt, path.as_path()) {
-            Ok(found) if inputs.have(&found) => return Err(Failure::Write(file_at(index, count))),
-            _ => {}
-        }
-    }
-    Ok(())
-}
-
-/// The files of the parts in these folders, of so many ports each.
-fn files_of_parts<R: Files + AllocGlobal>(
-    rt: &R,
-    folders: &[&str],
-    count: usize,
-) -> Result<FoundFiles, AllocError> {
-    let mut files = FoundFiles::none(rt.alloc());
+    let mut apart = Apart::new(rt.alloc(), out);
     for folder in folders {
         for index in 0..count.saturating_add(BESIDE_PORTS) {
             let path = path_of(rt.alloc(), *folder, file_at(index, count))?;
-            files.note(rt, path.as_path())?;
+            apart.add_input(rt, path.as_path())?;
         }
     }
-    Ok(files)
+    if prints {
+        apart.add_printed(rt)?;
+    }
+    for index in 0..count.saturating_add(2) {
+        apart.see(rt, output_at(index))?;
+    }
+    apart.see(rt, OutputFile::Mark)?;
+    for index in 0..BESIDE_PORTS - 2 {
+        apart.see_removed(
+            rt,
+            file_at(index.saturating_add(count).saturating_add(2), count),
+        )?;
+    }
+    Ok(())
 }
 
 /// Why the program gives up where a merge does.

@@ -1,3 +1,4 @@
 pub mod Hashers
 pub mod Lanes
+pub mod Laws
 pub mod Sums

@@ -1,6 +1,6 @@
 -- Two sums of octets, by which an accident is noticed: J. G. Fletcher, An Arithmetic Checksum for Serial Transmissions (IEEE
--- Transactions on Communications, 1982), over words of 64 bits and modulo 2^64. The second sum counts the words from the front,
--- so it is (n + 1) A - B of Fletcher's two sums A and B of n words (RFC 1146, 2).
+-- Transactions on Communications, 1982), over words of 64 bits and modulo a prime. The second sum counts the words from the
+-- front, so it is (n + 1) A - B of Fletcher's two sums A and B of n words (RFC 1146, 2).
 use Rattle.std.specs.Prelude.{◌≡◌, ◌<◌, ℕ, ◌+◌, ◌*◌, ◌^◌, ◌/◌, ◌%◌, List, [], ◌∷◌, length}
 use Rattle.octet_sums.specs.declared.fletcher.sum.OctetSum.{OctetSum}
 
@@ -17,12 +17,16 @@ in_word place = 2 ^ (8 * (place % 8))
 abbrev pub in_text : ℕ → ℕ
 in_text place = in_word place * (place / 8 + 1)
 
+-- the greatest prime below 2^64
+abbrev pub prime : ℕ
+prime = 18446744073709551557
+
 -- the sum of a text's words, and that of its words each as often as its number
 abbrev pub first_sum : List ℕ → ℕ
-first_sum text = weighed in_word 0 text % 2 ^ 64
+first_sum text = weighed in_word 0 text % prime
 
 abbrev pub second_sum : List ℕ → ℕ
-second_sum text = weighed in_text 0 text % 2 ^ 64
+second_sum text = weighed in_text 0 text % prime
 
 -- the number and the sums of a text's octets
 abbrev pub sum_of : List ℕ → OctetSum

@@ -1,12 +1,18 @@
 //! The page.
 use crate::lines::{count_lines, moments_of};
 use pcap::stream::{BlockOutput, StdOutput};
-use program_faults::{Failure, OutputFile, SystemFault, UnwrittenFile, WorkedFailure, read_text};
-use program_files::{FoundFiles, OutputDevice, open_part_file, path_of};
+use program_faults::{
+    Failure, OutputFile, SystemFault, Unwritten, UnwrittenFile, WorkedFailure, read_text,
+};
+use program_files::{
+    FILES_OF_A_RUN, FoundFiles, OutputDevice, file_of_run, open_part_file, path_of, place_of,
+    see_ended,
+};
 use report_counts::ReportCounts;
 use report_page::write_page;
 use std::alloc::{AllocError, Global};
 use std::fs::{self, OpenOptions};
+use std::path::Path;
 use std::rt::Files;
 
 /// How many octets are written at once.
@@ -18,8 +24,8 @@ const TEXT_READS: u64 = u64::MAX;
 /// What a run printed, where that was kept in its folder.
 const KEPT: [OutputFile; 2] = [OutputFile::Summary, OutputFile::Tables];
 
-/// Makes a page of what a run wrote into a folder. Where the folder has no decision lines, one of them is none, or the page is one
-/// of the files that are read, nothing is made or written.
+/// Makes a page of what a run wrote into a folder. Where the folder has no decision lines, its run didn't end, one of the lines is
+/// none, or the page is one of the run's files, nothing is made or written.
 #[inline(never)]
 pub fn make_page<'a, R: Files + AllocGlobal>(
     rt: &R,
@@ -31,6 +37,7 @@ pub fn make_page<'a, R: Files + AllocGlobal>(
         let lacks = WorkedFailure::Lacks(OutputFile::Decisions);
         return Err(Failure::Worked(folder, lacks));
     }
+    see_ended(rt, folder)?;
     spare(rt, folder, page)?;
     let (first, last) = moments_of(rt, folder)?;
     let mut counts = ReportCounts::new(rt.alloc(), first, last)?;
@@ -42,18 +49,23 @@ pub fn make_page<'a, R: Files + AllocGlobal>(
     }
 }
 
-/// Refuses a page that is one of the files which are read.
+/// Refuses a page that is one of the files that a run left in its folder.
 fn spare<R: Files + AllocGlobal>(rt: &R, folder: &str, page: &str) -> Result<(), Failure<'static>> {
-    let mut inputs = FoundFiles::none(rt.alloc());
-    let lines = path_of(rt.alloc(), folder, OutputFile::Decisions)?;
-    inputs.note(rt, lines.as_path())?;
-    for output in KEPT {
+    let Some(place) = place_of(rt, Path::new(page)) else {
+        return Ok(());
+    };
+    let mut files = FoundFiles::none(rt.alloc());
+    for index in 0..FILES_OF_A_RUN {
+        let output = file_of_run(index);
         let path = path_of(rt.alloc(), folder, output)?;
-        inputs.note(rt, path.as_path())?;
+        files.note(rt, path.as_path(), output)?;
     }
-    match fs::metadata(rt, page) {
-        Ok(found) if inputs.have(&found) => Err(unwritten(rt.alloc(), page, None)),
-        _ => Ok(()),
+    match files.at(place) {
+        Some(output) => {
+            let name = format!(in rt.alloc(); "{folder}/{output}")?;
+            Err(unwritten(rt.alloc(), page, Unwritten::Is(name)))
+        }
+        None => Ok(()),
     }
 }
 
@@ -89,7 +101,10 @@ fn write<R: Files + AllocGlobal>(
         .open(rt, page);
     let file = match opened {
         Ok(file) => file,
-        Err(error) => return Err(unwritten(rt.alloc(), page, SystemFault::of(&error))),
+        Err(error) => {
+            let why = Unwritten::of(SystemFault::of(&error));
+            return Err(unwritten(rt.alloc(), page, why));
+        }
     };
     let device = StdOutput::new(OutputDevice::new(file));
     let mut output = BlockOutput::new(rt.alloc(), device, BLOCK)?;
@@ -99,13 +114,13 @@ fn write<R: Files + AllocGlobal>(
         return Ok(());
     }
     let fault = output.output().writer().fault();
-    Err(unwritten(rt.alloc(), page, fault))
+    Err(unwritten(rt.alloc(), page, Unwritten::of(fault)))
 }
 
 /// That the page couldn't be written.
-fn unwritten(alloc: Global, page: &str, fault: Option<SystemFault>) -> Failure<'static> {
+fn unwritten(alloc: Global, page: &str, why: Unwritten) -> Failure<'static> {
     match String::from_str(alloc, page) {
-        Ok(path) => Failure::Unwritten(UnwrittenFile { path, fault }),
+        Ok(path) => Failure::Unwritten(UnwrittenFile { path, why }),
         Err(error) => Failure::from(error),
     }
 }

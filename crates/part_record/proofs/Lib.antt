@@ -1,6 +1,7 @@
 pub mod Captures
 pub mod Counts
 pub mod DigestText
+pub mod LeftTexts
 pub mod Lines
 pub mod OutputText
 pub mod Reading

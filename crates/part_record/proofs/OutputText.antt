@@ -1,5 +1,5 @@
 -- Lines of outputs: where two texts begin with one, both have the same.
-use Rattle.std.proofs.Common.{◌≡◌, ◌≢◌, ◌∙◌, sym, refl, ap, ℕ, zero, suc, ◌+◌, ◌^◌, ◌<◌, List, [], ◌∷◌, ◌++◌, length, get_or, take, codes, decimal, All, Option, None, Some, MatchOption, Bor, arith, add-zero, append_assoc}
+use Rattle.std.proofs.Common.{◌≡◌, ◌≢◌, ◌∙◌, sym, refl, ap, ℕ, zero, suc, ◌+◌, ◌^◌, ◌<◌, ◌≤◌, List, [], ◌∷◌, ◌++◌, length, get_or, take, codes, decimal, All, Option, None, Some, MatchOption, Bor, arith, add-zero, append_assoc}
 use Rattle.std.proofs.lemmas.Fmt.{decimal_injective}
 use Rattle.std.proofs.lemmas.List.{append_cancel_left}
 use Rattle.std.proofs.lemmas.List.Elements.{All-head, All-tail}
@@ -130,25 +130,19 @@ put_more start items named new fs i none less e n h =
     put_next output_line 0 start items new fs i i none less (omega arith) e
     (h ∙ ap (λ (l : List ℕ). l ++ numbers (get_or fs i none)) n ∙ append_assoc items (output_word i) (numbers (get_or fs i none)))
 
-no_empty_line : (place : ℕ) (f : OutputFacts) (rest : List ℕ) → output_line place f ++ rest ≢ []
-no_empty_line zero f rest e = cc e
-no_empty_line (suc zero) f rest e = cc e
-no_empty_line (suc (suc k)) f rest e = cc e
-
 -- as many are read as there are
-pub same_outputs : (place : ℕ) (a b : List OutputFacts) (r : List ℕ) → All IsOutput a → All IsOutput b
+pub same_outputs : (place : ℕ) (a b : List OutputFacts) (r q : List ℕ) → All IsOutput a → All IsOutput b → length a ≤ length b
     → ((o : OutputFacts) (rest : List ℕ) → IsOutput o → length a < length b → r ≢ output_line (place + length a) o ++ rest)
-    → output_lines place a ++ r ≡ output_lines place b → (a ≡ b) × (r ≡ [])
-same_outputs place [] [] r f g none e = (refl, e)
-same_outputs place [] (y ∷ b) r f g none e =
-    let shown : r ≡ output_line (place + 0) y ++ output_lines (place + 1) b = rw add-zero e in
-    absurd (none y (output_lines (place + 1) b) (All-head IsOutput y b g) (omega arith) shown)
-same_outputs place (x ∷ a) [] r f g none e =
-    absurd (no_empty_line place x (output_lines (place + 1) a ++ r) (sym (append_assoc (output_line place x) (output_lines (place + 1) a) r) ∙ e))
-same_outputs place (x ∷ a) (y ∷ b) r f g none e =
-    let both = same_lines place x y (output_lines (place + 1) a ++ r) (output_lines (place + 1) b) (All-head IsOutput x a f) (All-head IsOutput y b g)
-    (sym (append_assoc (output_line place x) (output_lines (place + 1) a) r) ∙ e) in
-    let others = same_outputs (place + 1) a b r (All-tail IsOutput x a f) (All-tail IsOutput y b g)
+    → output_lines place a ++ r ≡ output_lines place b ++ q → (a ≡ b) × (r ≡ q)
+same_outputs place [] [] r q f g few none e = (refl, e)
+same_outputs place [] (y ∷ b) r q f g few none e =
+    let shown : r ≡ output_line (place + 0) y ++ (output_lines (place + 1) b ++ q) = rw add-zero (e ∙ append_assoc (output_line place y) (output_lines (place + 1) b) q) in
+    absurd (none y (output_lines (place + 1) b ++ q) (All-head IsOutput y b g) (omega arith) shown)
+same_outputs place (x ∷ a) [] r q f g few none e = absurd (omega (arith, few))
+same_outputs place (x ∷ a) (y ∷ b) r q f g few none e =
+    let both = same_lines place x y (output_lines (place + 1) a ++ r) (output_lines (place + 1) b ++ q) (All-head IsOutput x a f) (All-head IsOutput y b g)
+    (sym (append_assoc (output_line place x) (output_lines (place + 1) a) r) ∙ e ∙ append_assoc (output_line place y) (output_lines (place + 1) b) q) in
+    let others = same_outputs (place + 1) a b r q (All-tail IsOutput x a f) (All-tail IsOutput y b g) (omega (arith, few))
     (λ o rest is less h. none o rest is (omega arith) (h ∙ ap (λ (n : ℕ). output_line n o ++ rest) (let same : place + 1 + length a ≡ place + suc (length a) = omega arith in same)))
     both.1 in
     let first : x ≡ y = both.0 in

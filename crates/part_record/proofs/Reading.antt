@@ -43,18 +43,18 @@ text_parts f r =
 
 -- ---- line by line
 
--- the tenth octet of `tep shard 2` and of `tep shard 3`
+-- the tenth octet of `tep shard 4` and of `tep shard 5`
 same_first : (a b : Bool) (r q : List ℕ) → first_line a ++ r ≡ first_line b ++ q → (a ≡ b) × (r ≡ q)
 same_first false false r q e = (refl, append_cancel_left (first_line false) r q e)
-same_first false true r q e = let wrong : 50 ≡ 51 = ap (λ (l : List ℕ). get_or l 10 0) e in absurd (omega (arith, wrong))
-same_first true false r q e = let wrong : 51 ≡ 50 = ap (λ (l : List ℕ). get_or l 10 0) e in absurd (omega (arith, wrong))
+same_first false true r q e = let wrong : 52 ≡ 53 = ap (λ (l : List ℕ). get_or l 10 0) e in absurd (omega (arith, wrong))
+same_first true false r q e = let wrong : 53 ≡ 52 = ap (λ (l : List ℕ). get_or l 10 0) e in absurd (omega (arith, wrong))
 same_first true true r q e = (refl, append_cancel_left (first_line true) r q e)
 
 -- a text that begins with neither
-pub no_first : (text : List ℕ) → ((rest : List ℕ) → text ≢ codes "tep shard 2\n" ++ rest) → ((rest : List ℕ) → text ≢ codes "tep shard 3\n" ++ rest)
+pub no_first : (text : List ℕ) → ((rest : List ℕ) → text ≢ codes "tep shard 4\n" ++ rest) → ((rest : List ℕ) → text ≢ codes "tep shard 5\n" ++ rest)
     → (both : Bool) (rest : List ℕ) → text ≢ first_line both ++ rest
-no_first text two three false rest = two rest
-no_first text two three true rest = three rest
+no_first text four five false rest = four rest
+no_first text four five true rest = five rest
 
 pub first_is : (text : List ℕ) (both : Bool) (rest : List ℕ) (f : Facts) (r : List ℕ) → text ≡ first_line both ++ rest → text ≡ facts_text f ++ r → (both ≡ is_some f.both) × (rest ≡ behind_first f r)
 first_is text both rest f r e h = same_first both (is_some f.both) rest (behind_first f r) (sym e ∙ h ∙ text_parts f r)

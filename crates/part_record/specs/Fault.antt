@@ -3,10 +3,12 @@ use Rattle.std.specs.Prelude.{◌≡◌, ◌≢◌, ◌<◌, ◌⊎◌, ℕ, ◌
 use Rattle.timeline.specs.declared.source.Tap.TheVariants as taps
 use Rattle.part_record.specs.Record.{Facts, IsOneLine, IsRecord, before_events, before_underlay, both_line}
 use Rattle.part_record.specs.Record.{capture_line, changes_line, events_line, facts_text, first_line}
-use Rattle.part_record.specs.Record.{older_line, segments_line, settings_line, text_of, with_captures}
+use Rattle.part_record.specs.Record.{IsOlder, record_text, segments_line, settings_line, with_captures}
 use Rattle.part_record.specs.Outputs.{AreOutputs, IsOutput, output_line, output_lines}
 use Rattle.part_record.specs.Sum.{IsSum}
+use Rattle.part_record.specs.Texts.{AreTexts}
 use Rattle.part_record.specs.declared.outputs.OutputFacts.{OutputFacts}
+use Rattle.part_record.specs.declared.texts.ToldTexts.{ToldTexts}
 use Rattle.part_record.specs.declared.fault.PartRecordFault.{PartRecordFault}
 use Rattle.part_record.specs.declared.fault.PartRecordFault.TheVariants as faults
 
@@ -31,8 +33,8 @@ pub record LacksNext (f : Facts) (rest : List ℕ) : Type 0 where
 
 -- up to the place that the fault names a text has a record's lines, and there it has none that can follow
 abbrev pub IsFaultIn : List ℕ → PartRecordFault → Type 0
-IsFaultIn text faults.Head = (rest : List ℕ) → ((both : Bool) → text ≢ first_line both ++ rest) × (text ≢ older_line ++ rest)
-IsFaultIn text faults.Older = (rest : List ℕ) × (text ≡ older_line ++ rest)
+IsFaultIn text faults.Head = ((both : Bool) (rest : List ℕ) → text ≢ first_line both ++ rest) × ¬ IsOlder text
+IsFaultIn text faults.Older = IsOlder text
 IsFaultIn text faults.Segments =
     (both : Bool) × (rest : List ℕ) × (text ≡ first_line both ++ rest)
     × ((segments behind : List ℕ) → IsOneLine segments → rest ≢ segments_line segments ++ behind)
@@ -56,5 +58,6 @@ IsFaultIn text faults.Output =
     × (text ≡ facts_text f ++ (output_lines 0 outputs ++ rest))
     × ((o : OutputFacts) (behind : List ℕ) → IsOutput o → rest ≢ output_line (length outputs) o ++ behind)
 IsFaultIn text faults.Behind =
-    (f : Facts) × (outputs : List OutputFacts) × (rest : List ℕ) × IsRecord f × AreOutputs (length f.ports) outputs
-    × (text ≡ text_of f outputs ++ rest) × (rest ≢ [])
+    (f : Facts) × (outputs : List OutputFacts) × (texts : ToldTexts) × (rest : List ℕ)
+    × IsRecord f × AreOutputs (length f.ports) outputs × AreTexts texts
+    × (text ≡ record_text f outputs texts ++ rest) × (rest ≢ [])

@@ -9,3 +9,4 @@ pub mod Parting
 pub mod Record
 pub mod Same
 pub mod Sum
+pub mod Texts

@@ -1,5 +1,5 @@
 -- The text that says what a part of a run was made from and which outputs it has. It states no standard.
-use Rattle.std.specs.Prelude.{◌≢◌, ◌<◌, ◌≤◌, ℕ, ◌+◌, ◌^◌, Bool, true, false, List, [], ◌∷◌, ◌++◌, length}
+use Rattle.std.specs.Prelude.{◌≡◌, ◌≢◌, ◌⊎◌, ◌<◌, ◌≤◌, ℕ, ◌+◌, ◌^◌, Bool, true, false, List, [], ◌∷◌, ◌++◌, length}
 use Rattle.std.specs.Prelude.{slice_index, codes, decimal, All, Option, Some, None, IfSome, is_some}
 use Rattle.hex.specs.Hex.{encode_lower}
 use Rattle.timeline.specs.Words.{tap_word}
@@ -8,8 +8,10 @@ use Rattle.timeline.specs.declared.source.Tap.TheVariants as taps
 use Rattle.part_record.specs.InTurn.{lines_in_turn}
 use Rattle.part_record.specs.Outputs.{output_lines}
 use Rattle.part_record.specs.Sum.{IsSum}
+use Rattle.part_record.specs.Texts.{text_lines}
 use Rattle.part_record.specs.declared.outputs.OutputFacts.{OutputFacts}
 use Rattle.part_record.specs.declared.facts.PartRecord.{PartRecord}
+use Rattle.part_record.specs.declared.texts.ToldTexts.{ToldTexts}
 
 -- what a part of a run was made from: its segments, as they were asked for; the digests of the settings text, of the
 -- changes text, where there was one, and of each port's capture and the underlay's; where these hold both directions, how many
@@ -65,12 +67,14 @@ sum_line word sum = line word (encode_lower sum)
 -- the first line, which says what the text is, and of which version: of a later one where it tells that captures hold both
 -- directions, so that who doesn't know that line takes none of it
 abbrev pub first_line : Bool → List ℕ
-first_line false = codes "tep shard 2\n"
-first_line true = codes "tep shard 3\n"
+first_line false = codes "tep shard 4\n"
+first_line true = codes "tep shard 5\n"
 
--- that of the version before, which told nothing of the outputs
-abbrev pub older_line : List ℕ
-older_line = codes "tep shard 1\n"
+-- a text begins with the first line of a version before: the first told nothing of the outputs, the others had weaker sums
+abbrev pub IsOlder : List ℕ → Type 0
+IsOlder text =
+    (rest : List ℕ)
+    × ((text ≡ codes "tep shard 1\n" ++ rest) ⊎ ((text ≡ codes "tep shard 2\n" ++ rest) ⊎ (text ≡ codes "tep shard 3\n" ++ rest)))
 
 abbrev pub segments_line : List ℕ → List ℕ
 segments_line segments = line (codes "segments ") segments
@@ -122,6 +126,10 @@ before_events f = with_captures f ++ both_line f.both
 abbrev pub facts_text : Facts → List ℕ
 facts_text f = before_events f ++ events_line f.events
 
--- the text of a record: the facts, and then the outputs
+-- the text of a record, without the texts that the part left: the facts, and then the outputs
 abbrev pub text_of : Facts → List OutputFacts → List ℕ
 text_of f outputs = facts_text f ++ output_lines 0 outputs
+
+-- and whole, with what is told of those
+abbrev pub record_text : Facts → List OutputFacts → ToldTexts → List ℕ
+record_text f outputs texts = text_of f outputs ++ text_lines texts

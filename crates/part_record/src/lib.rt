@@ -1,8 +1,9 @@
 //! What a part of a run was made from, as the small text `shard.txt` tells it.
 //!
 //! Use first: a [`PartRecord`] has the part's segments, the SHA-256 (FIPS 180-4) of the settings, of the changes and of each
-//! capture, and how many events the part tells; [`OutputFacts`] have what is told of each of its outputs. [`text_of`] writes
-//! both, one fact a line, and [`record_of`] reads them back, and nothing else. [`same_run`] says whether two parts are of one
+//! capture, and how many events the part tells; [`OutputFacts`] have what is told of each of its outputs, and [`ToldTexts`] of
+//! the texts that it left. [`text_of`] and [`put_texts`] write them, one fact a line, and [`record_of`] reads them back, and
+//! nothing else. [`same_run`] says whether two parts are of one
 //! run, and [`part_all`] whether parts are all of it. [`CaptureDigests`] are taken once and lent to each part, by
 //! [`digests_text`] and [`digests_of`], and [`see_octets`] says whether they may be those of captures with so many octets.
 //!
@@ -10,7 +11,7 @@
 //! alone. [`SumOutput`] sums what it hands on, [`SumInput`] fails at an end with other sums than were told, and
 //! [`RecordCounts`] are counts by place.
 //!
-//! Specs to read, in order: `specs/InTurn`, `specs/Record`, `specs/Outputs`, `specs/Fault`, `specs/Same`, `specs/Parting`,
+//! Specs to read, in order: `specs/InTurn`, `specs/Outputs`, `specs/Texts`, `specs/Record`, `specs/Fault`, `specs/Same`, `specs/Parting`,
 //! `specs/Digests`, `specs/Lent`, `specs/Sum`, `specs/Counts`.
 //!
 //! Proved: a text is read as a record just where it is that record's text, and else a fault is told that stands there; as
@@ -21,8 +22,8 @@
 //!
 //! Proved of a part's record:
 //! - A text is read as a record just where it is that record's text, with as many outputs as the record's ports and
-//!   two. Where it is none's the fault is one that stands there, one of its own for the version before: `record_of`. A
-//!   text tells one record and its outputs: `laws::one_text_each`.
+//!   two, and what is told of the texts that the part left. Where it is none's the fault is one that stands there, one of its
+//!   own for the versions before: `record_of`. A text tells one record, its outputs and texts: `laws::one_text_each`.
 //! - `part_all` answers Ok just where each VID of 1 to 4094 and `none` are in exactly one part, and otherwise the
 //!   lowest that isn't.
 //!
@@ -50,6 +51,7 @@ mod same;
 mod steps;
 mod sum_input;
 mod sum_output;
+mod texts;
 mod write;
 
 pub use count_input::CountInput;
@@ -60,9 +62,10 @@ pub use fault::PartRecordFault;
 pub use lent::{LentFault, see_octets};
 pub use outputs::{MOST_OUTPUTS, OutputFacts, ToldOutputs};
 pub use parting::{PartingFault, part_all};
-pub use read::record_of;
+pub use read::{ToldRecord, record_of};
 pub use record_counts::RecordCounts;
 pub use same::{Difference, same_run};
 pub use sum_input::SumInput;
 pub use sum_output::SumOutput;
+pub use texts::{ToldTexts, put_texts};
 pub use write::text_of;

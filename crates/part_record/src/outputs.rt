@@ -28,7 +28,7 @@ pub struct OutputFacts {
 pub type ToldOutputs = ArrayVec<OutputFacts, MOST_OUTPUTS>;
 
 /// Puts a number and a character behind a text.
-fn put_number(text: &mut Vec<u8>, number: u64, end: u8) -> Result<(), AllocError>
+pub(crate) fn put_number(text: &mut Vec<u8>, number: u64, end: u8) -> Result<(), AllocError>
     ensures { OnOk result (text.new.items ≡ text.old.items ++ (decimal number ++ end ∷ [])) }
 {
     text.extend_from_slice(Buffer::new().format(number).as_bytes())?;
@@ -108,7 +108,7 @@ fn last_number(text: &str) -> Option<(u64, &str)>
 }
 
 /// The number and the sums of octets that the end of a line tells, and what stands behind the line.
-fn sum_told(text: &str) -> Option<(OctetSum, &str)>
+pub(crate) fn sum_told(text: &str) -> Option<(OctetSum, &str)>
     ensures { MatchOption result ((s : ASum) (rest : List ℕ) → IsTold s → text.now ≢ sums s ++ rest)
         (λ found. IsTold found.0 × (text.now ≡ sums found.0 ++ found.1.now)) }
 {

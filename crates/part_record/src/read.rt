@@ -3,23 +3,49 @@ ghost use Rattle.std.specs.Prelude.{◌≡◌, ◌≢◌, ◌<◌, ◌^◌, Bool
 ghost use Rattle.std.specs.Prelude.{true, length, IfOk, IfErr, IfNone, IfSome, OnErr, MatchOption};
 ghost use Rattle.part_record.specs.Fault.{IsFaultIn, IsNoCapture};
 ghost use Rattle.part_record.specs.Outputs.{AreOutputs};
-ghost use Rattle.part_record.specs.Record.{Facts, IsOneLine, IsRecord, IsTime, both_line, changes_line};
+ghost use Rattle.part_record.specs.Record.{Facts, IsOneLine, IsRecord, IsTime, record_text, both_line, changes_line};
 ghost use Rattle.part_record.specs.Record.{facts_of, facts_text, first_line, segments_line, sum_line, text_of};
 ghost use Rattle.part_record.specs.Sum.{IsSum};
+ghost use Rattle.part_record.specs.Texts.{AreTexts};
 ghost use Rattle.part_record.specs.declared.outputs.OutputFacts.{OutputFacts as AnOutput};
+ghost use Rattle.part_record.specs.declared.texts.ToldTexts.{ToldTexts as SomeTexts};
 
 use crate::facts::PartRecord;
 use crate::fault::PartRecordFault;
 use crate::outputs::{ToldOutputs, outputs_of};
 use crate::steps::{behind, first_line, number_behind, ports_of, sum_behind};
+use crate::texts::{ToldTexts, texts_of};
 
-/// The record of a text, exactly as [`text_of`](crate::text_of) writes it, and what is told of the outputs: of two more than the
-/// record has ports. Its segments are a part of the text, and not looked into.
-pub fn record_of(text: &str) -> Result<(PartRecord<'_>, ToldOutputs), PartRecordFault>
+/// A record, and what it tells of the part's files.
+pub type ToldRecord<'a> = (PartRecord<'a>, ToldOutputs, ToldTexts);
+
+/// The record of a text, exactly as [`text_of`](crate::text_of) and [`put_texts`](crate::put_texts) write it, what is told of the
+/// outputs, of two more than the record has ports, and of the texts that the part left. Its segments are a part of the text, and not
+/// looked into.
+pub fn record_of(text: &str) -> Result<ToldRecord<'_>, PartRecordFault>
+    ensures read { IfOk result (λ r. IsRecord (facts_of r.0) × AreOutputs (length r.0.ports.items) r.1.items × AreTexts r.2
+        × (text.now ≡ record_text (facts_of r.0) r.1.items r.2)) }
+    ensures none { OnErr result ((f : Facts) (outputs : List AnOutput) (texts : SomeTexts) → IsRecord f
+        → AreOutputs (length f.ports) outputs → AreTexts texts → text.now ≢ record_text f outputs texts) }
+    ensures fault { IfErr result (λ fault. IsFaultIn text.now fault) }
+{
+    let (record, outputs, left) = match made_of(text) {
+        Ok(made) => made,
+        Err(fault) => return Err(fault),
+    };
+    let (texts, rest) = texts_of(left);
+    if !rest.is_empty() {
+        return Err(PartRecordFault::Behind);
+    }
+    Ok((record, outputs, texts))
+}
+
+/// The record of a text, what is told of the outputs, and what stands behind their lines.
+fn made_of(text: &str) -> Result<(PartRecord<'_>, ToldOutputs, &str), PartRecordFault>
     ensures read { IfOk result (λ r. IsRecord (facts_of r.0) × AreOutputs (length r.0.ports.items) r.1.items
-        × (text.now ≡ text_of (facts_of r.0) r.1.items)) }
-    ensures none { OnErr result ((f : Facts) (outputs : List AnOutput) → IsRecord f
-        → AreOutputs (length f.ports) outputs → text.now ≢ text_of f outputs) }
+        × (text.now ≡ text_of (facts_of r.0) r.1.items ++ r.2.now)) }
+    ensures none { OnErr result ((f : Facts) (outputs : List AnOutput) (rest : List ℕ) → IsRecord f
+        → AreOutputs (length f.ports) outputs → text.now ≢ text_of f outputs ++ rest) }
     ensures fault { IfErr result (λ fault. IsFaultIn text.now fault) }
 {
     let (record, told) = match facts_behind(text) {
@@ -31,10 +57,7 @@ pub fn record_of(text: &str) -> Result<(PartRecord<'_>, ToldOutputs), PartRecord
     if outputs.len() < count {
         return Err(PartRecordFault::Output);
     }
-    if !rest.is_empty() {
-        return Err(PartRecordFault::Behind);
-    }
-    Ok((record, outputs))
+    Ok((record, outputs, rest))
 }
 
 /// The facts that a text begins with, and what stands behind their lines.
@@ -84,10 +107,10 @@ fn head_of(text: &str) -> Option<(bool, &str)>
     ensures { MatchOption result ((both : Bool) (rest : List ℕ) → text.now ≢ first_line both ++ rest)
         (λ found. text.now ≡ first_line found.0 ++ found.1.now) }
 {
-    if let Some(rest) = behind(text, "tep shard 2\n") {
+    if let Some(rest) = behind(text, "tep shard 4\n") {
         return Some((false, rest));
     }
-    match behind(text, "tep shard 3\n") {
+    match behind(text, "tep shard 5\n") {
         Some(rest) => Some((true, rest)),
         None => None,
     }
@@ -116,10 +139,16 @@ fn no_head(text: &str) -> PartRecordFault
     requires { (both : Bool) (rest : List ℕ) → text.now ≢ first_line both ++ rest }
     ensures { IsFaultIn text.now result }
 {
-    match behind(text, "tep shard 1\n") {
-        Some(_) => PartRecordFault::Older,
-        None => PartRecordFault::Head,
+    if let Some(_rest) = behind(text, "tep shard 1\n") {
+        return PartRecordFault::Older;
     }
+    if let Some(_rest) = behind(text, "tep shard 2\n") {
+        return PartRecordFault::Older;
+    }
+    if let Some(_rest) = behind(text, "tep shard 3\n") {
+        return PartRecordFault::Older;
+    }
+    PartRecordFault::Head
 }
 
 /// The segments on their line, and what stands behind it.

@@ -11,7 +11,8 @@ use crate::steps::digits_of;
 use itoa::Buffer;
 use std::alloc::{AllocError, Global};
 
-/// The text of a record, one fact a line, and of what is told of the outputs. `Err`: a growth was refused.
+/// The text of a record, one fact a line, and of what is told of the outputs. What is told of the texts that the part left is put
+/// behind it by [`put_texts`](crate::put_texts). `Err`: a growth was refused.
 pub fn text_of(
     alloc: Global,
     part: &PartRecord<'_>,
@@ -48,9 +49,9 @@ fn first_line<'a>(both: bool) -> &'a [u8]
     ensures { result.now ≡ first_line both }
 {
     if both {
-        b"tep shard 3\n"
+        b"tep shard 5\n"
     } else {
-        b"tep shard 2\n"
+        b"tep shard 4\n"
     }
 }
 

@@ -14,14 +14,17 @@ status_of (faults.Capture tap fault) = 1
 status_of (faults.Record tap number fault) = 1
 status_of faults.OutOfMemory = 3
 
--- of what the program gives up for: 1 for a text, a capture, a part or digests that are refused, an event that isn't there or
--- captures that differ, 3 for want of memory, a failed read or a failed write
+-- of what the program gives up for: 1 for a text, a capture, a part, a folder or digests that are refused, an event that isn't
+-- there or captures that differ, 3 for want of memory, a failed read, a failed write or outputs that are one file
 abbrev pub failure_status_of : Failure → ℕ
 failure_status_of (failures.Run fault) = status_of fault
 failure_status_of (failures.Pcapng tap fault) = 1
 failure_status_of (failures.Read name) = 3
 failure_status_of (failures.Write output) = 3
 failure_status_of (failures.WriteFailed output fault) = 3
+failure_status_of (failures.OneFile one other) = 3
+failure_status_of (failures.ReadAgain output) = 1
+failure_status_of (failures.Unended folder) = 1
 failure_status_of (failures.NoEvent name) = 1
 failure_status_of (failures.Segments fault) = 1
 failure_status_of (failures.Within text) = 1

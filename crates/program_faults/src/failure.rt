@@ -41,6 +41,15 @@ pub enum Failure<'a> {
     /// This couldn't be written, and the system told why.
     #[error("write {0}")]
     WriteFailed(OutputFile, SystemFault),
+    /// These two outputs are one file, under two names: neither is written.
+    #[error("{0} and {1} are one file")]
+    OneFile(OutputFile, OutputFile),
+    /// A part reads this output again behind its run, and it is no regular file.
+    #[error("{0} is no regular file, and a part reads it again")]
+    ReadAgain(OutputFile),
+    /// A run or a merge into the folder of this name is under way, or it didn't end.
+    #[error("{name}: a run into it is under way or didn't end", name = OneLine(*.0))]
+    Unended(&'a str),
     /// No event has one of the names that were asked for, of which this is the first.
     #[error("why: no event {name}", name = OneLine(*.0))]
     NoEvent(&'a str),
@@ -133,9 +142,12 @@ pub enum PartFailure {
     /// This output has another number of octets than its record says.
     #[error("{0} has another number of octets than shard.txt says")]
     Octets(OutputFile),
-    /// This output has as many octets as its record says, and other ones.
+    /// This output has as many octets as its record says, and other ones, or a text that it left isn't what its record says.
     #[error("{0} has other octets than shard.txt says")]
     Sums(OutputFile),
+    /// Its decision lines are no regular file, and a merge reads them twice.
+    #[error("decisions.txt is no regular file, and a merge reads it twice")]
+    LinesOnce,
     /// It has no such file, since it was run without the word that asks for that.
     #[error("it has no {0}")]
     Lacks(OutputFile),
@@ -162,6 +174,8 @@ pub enum OutputFile {
     Summary,
     /// The tables of a part at its end.
     Tables,
+    /// What says that a run isn't done.
+    Mark,
     Stdout,
 }
 
@@ -175,6 +189,7 @@ impl fmt::Display for OutputFile {
             OutputFile::PartRecord => f.write_str("shard.txt"),
             OutputFile::Summary => f.write_str("summary.txt"),
             OutputFile::Tables => f.write_str("tables.txt"),
+            OutputFile::Mark => f.write_str("unfinished.txt"),
             OutputFile::Stdout => f.write_str("stdout"),
         }
     }
@@ -215,8 +230,8 @@ impl<'a> Failure<'a> {
         Failure::Part(folder, PartFailure::Part(fault))
     }
 
-    /// The exit status: 1 for a text, a capture, a part or digests that are refused, an event that isn't there or captures that
-    /// differ, 3 for want of memory, a failed read or a failed write.
+    /// The exit status: 1 for a text, a capture, a part, a folder or digests that are refused, an event that isn't there or
+    /// captures that differ, 3 for want of memory, a failed read, a failed write or outputs that are one file.
     pub fn status(&self) -> u8
         ensures { result ≡ failure_status_of self.now }
     {
@@ -228,6 +243,8 @@ impl<'a> Failure<'a> {
             | Failure::Within(_)
             | Failure::Shift(_)
             | Failure::ReadOnce(_)
+            | Failure::ReadAgain(_)
+            | Failure::Unended(_)
             | Failure::Digests(..)
             | Failure::Part(..)
             | Failure::Parting(_)
@@ -240,7 +257,7 @@ impl<'a> Failure<'a> {
             | Failure::Missing(_)
             | Failure::Split(..) => 1,
             Failure::Read(_) | Failure::Write(_) | Failure::WriteFailed(..) => 3,
-            Failure::Unwritten(_) => 3,
+            Failure::OneFile(..) | Failure::Unwritten(_) => 3,
         }
     }
 }

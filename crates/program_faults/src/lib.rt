@@ -3,7 +3,7 @@
 //! Use first: a [`Failure`] prints as one line, [`Failure::status`] is its exit status, and [`exit_code`] that of a
 //! [`RunFault`](capture_run::RunFault). [`read_text`] reads a whole text from any input in a bounded number of reads, or
 //! answers a [`TextFault`]. [`OutputFile`] has the names of what is written, a [`SystemFault`] is why the system refused a
-//! file, [`OneLine`] prints a name on one line, and [`is_lost`] says whether what was printed was lost.
+//! file, [`OneLine`] prints a name on one line, [`Quoted`] as a word of a shell, and [`is_lost`] says whether what was printed was lost.
 //!
 //! Specs to read, in order: `specs/Status`, `specs/Text`.
 //!
@@ -24,6 +24,7 @@ mod decisions_fault;
 mod failure;
 mod one_line;
 mod printed;
+mod quoted;
 mod split_failure;
 mod status;
 mod system_fault;
@@ -34,7 +35,8 @@ pub use decisions_fault::DecisionsFault;
 pub use failure::{DigestsFailure, Failure, OutputFile, PartFailure};
 pub use one_line::OneLine;
 pub use printed::is_lost;
-pub use split_failure::{SplitFailure, UnwrittenFile};
+pub use quoted::Quoted;
+pub use split_failure::{SplitFailure, Unwritten, UnwrittenFile};
 pub use status::exit_code;
 pub use system_fault::SystemFault;
 pub use text::{TextFault, read_text};

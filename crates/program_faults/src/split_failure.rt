@@ -22,21 +22,46 @@ pub enum SplitFailure {
     Interface(u32, PcapngFault),
 }
 
-/// A file that couldn't be written, and why, where the system told it.
+/// A file that couldn't be written, and why.
 #[derive(Debug, Drop)]
 pub struct UnwrittenFile {
     pub path: String,
-    pub fault: Option<SystemFault>,
+    pub why: Unwritten,
+}
+
+/// Why a file couldn't be written.
+#[derive(Debug, Drop)]
+pub enum Unwritten {
+    /// It is one of those that are read, or nobody told why.
+    Untold,
+    /// The system told why.
+    Refused(SystemFault),
+    /// It is the file of this name, which is not to be written for it.
+    Is(String),
+}
+
+impl Unwritten {
+    /// What the system told, where it told it.
+    pub fn of(fault: Option<SystemFault>) -> Unwritten {
+        match fault {
+            Some(fault) => Unwritten::Refused(fault),
+            None => Unwritten::Untold,
+        }
+    }
 }
 
 impl fmt::Display for UnwrittenFile {
     fn fmt<W: fmt::Write>(&self, f: &mut fmt::Formatter<W>) -> fmt::Result {
         let path = OneLine(self.path.as_str());
         write!(f, "{path}")?;
-        match self.fault {
-            Some(fault) if fault.is_not_there() => f.write_str(": no such folder"),
-            Some(fault) => write!(f, ": {fault}"),
-            None => Ok(()),
+        match &self.why {
+            Unwritten::Untold => Ok(()),
+            Unwritten::Refused(fault) if fault.is_not_there() => f.write_str(": no such folder"),
+            Unwritten::Refused(fault) => write!(f, ": {fault}"),
+            Unwritten::Is(name) => {
+                let name = OneLine(name.as_str());
+                write!(f, ": it is {name} itself")
+            }
         }
     }
 }

@@ -1,4 +1,5 @@
 pub mod Asked
 pub mod Device
+pub mod Found
 pub mod Held
 pub mod Opened

@@ -12,6 +12,7 @@ ghost use Rattle.program_files.specs.Device.{left_in};
 ghost use Rattle.program_files.specs.Opened.{AreOpened, IsOpened};
 ghost use Rattle.program_files.specs.declared.inputs.Device.{Device as AnyDevice};
 
+use crate::mark::see_ended;
 use crate::outputs::path_of;
 use command_line::{STANDARD_INPUT, capture_name};
 use part_record::CountInput;
@@ -164,7 +165,7 @@ pub fn open_seen<'a, R: Files + Input + AllocGlobal>(
     seen(rt.alloc(), name, blocks, selection_of(asked.interface))
 }
 
-/// Opens a capture that a run wrote into this folder, and looks at its first octets.
+/// Opens a capture that a run wrote into this folder, where it ended, and looks at its first octets.
 pub fn open_written<'a, R: Files + Input + AllocGlobal>(
     rt: &R,
     folder: &'a str,
@@ -173,6 +174,9 @@ pub fn open_written<'a, R: Files + Input + AllocGlobal>(
     ensures new { IfOk result (λ seen. seen.standing ≡ New) }
     ensures most { IfOk result (λ seen. most_left seen < 2 ^ 64) }
 {
+    if let Err(failure) = see_ended(rt, folder) {
+        return Err(failure);
+    }
     let path = match path_of(rt.alloc(), folder, output) {
         Ok(path) => path,
         Err(error) => return Err(Failure::from(error)),

@@ -22,12 +22,15 @@
 //! said of all files that do: the code is one for both.
 #![tactic(auto)]
 
+mod apart;
+mod closed_streams;
 mod failed_outputs;
 mod file_causes;
 mod found_files;
 mod handed_on;
 mod inputs;
 mod interface_list;
+mod mark;
 mod names;
 mod open_files;
 mod output_device;
@@ -36,9 +39,11 @@ mod part_inputs;
 mod part_texts;
 mod printing;
 
+pub use apart::Apart;
+pub use closed_streams::ClosedStreams;
 pub use failed_outputs::{FailedOutput, FailedOutputs};
 pub use file_causes::{head_of_file, read_fault};
-pub use found_files::FoundFiles;
+pub use found_files::{Found, FoundFiles, Place, place_of};
 pub use handed_on::HandedOn;
 pub use inputs::{
     Blocks, CAPTURE_READS, Capture, ClassicInput, Device, SeenCapture, open_blocks, open_capture,
@@ -46,16 +51,17 @@ pub use inputs::{
     read_underlay, selection_of,
 };
 pub use interface_list::{Described, MOST_INTERFACES, Reach, interfaces_of_file};
+pub use mark::{Mark, see_ended};
 pub use names::{Names, RunInput, file_of, is_read_once, is_regular_file, is_same};
 pub use open_files::{files_at_once, has_room, is_refused, see_room};
 pub use output_device::OutputDevice;
 pub use outputs::{
-    Destination, Opened, OutputFiles, OutputSums, PartRecordFile, Written, open_outputs, path_of,
-    see_objects, spare_inputs,
+    Destination, FILES_OF_A_RUN, Opened, OutputFiles, OutputSums, PartRecordFile, Written,
+    empty_objects, file_of_run, is_read_again, open_objects, open_outputs, path_of, spare_inputs,
 };
 pub use part_inputs::{
     PartFile, PartInput, PartLines, count_lines, is_as_told, may_have_octets, open_output,
     open_part_file,
 };
-pub use part_texts::{drop_part, drop_texts, leave_text};
+pub use part_texts::{drop_part, drop_texts, leave_text, sum_of};
 pub use printing::{Shown, print_shown, print_text};

@@ -2,7 +2,7 @@
 //!
 //! Whether an output is one of the files that are read is told by device and inode, so that another name or a link is found
 //! too. Devices are left out: to write into `/dev/null` takes nothing from who reads it.
-use crate::found_files::FoundFiles;
+use crate::apart::Apart;
 use command_line::{STANDARD_INPUT, capture_name};
 use std::alloc::AllocError;
 use std::fmt;
@@ -59,21 +59,20 @@ impl<'a> Names<'_, 'a> {
         }
     }
 
-    /// The files that are read under these names, as far as they are there.
-    pub(crate) fn found<R: Files + AllocGlobal>(self, rt: &R) -> Result<FoundFiles, AllocError> {
-        let mut files = FoundFiles::none(rt.alloc());
-        files.note(rt, Path::new(self.settings))?;
+    /// Adds the files that are read under these names, as far as they are there.
+    pub(crate) fn add_to<R: Files>(self, rt: &R, apart: &mut Apart<'_>) -> Result<(), AllocError> {
+        apart.add_input(rt, Path::new(self.settings))?;
         if let Some(name) = self.changes {
-            files.note(rt, Path::new(name))?;
+            apart.add_input(rt, Path::new(name))?;
         }
         if let Some(name) = self.digests {
-            files.note(rt, Path::new(name))?;
+            apart.add_input(rt, Path::new(name))?;
         }
-        files.note(rt, Path::new(file_of(self.underlay)))?;
+        apart.add_input(rt, Path::new(file_of(self.underlay)))?;
         for name in self.ports {
-            files.note(rt, Path::new(file_of(*name)))?;
+            apart.add_input(rt, Path::new(file_of(*name)))?;
         }
-        Ok(files)
+        Ok(())
     }
 
     /// What is read of the file that stands at a path, under one of these names or another name of the same file.

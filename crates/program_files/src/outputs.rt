@@ -6,6 +6,7 @@ ghost use Rattle.std.specs.Prelude.{◌≡◌, IfOk, length};
 ghost use Rattle.pcap.specs.Block.{told};
 ghost use Rattle.program_files.specs.Held.{AreHeld, written};
 
+use crate::apart::{Apart, see_open};
 use crate::found_files::FoundFiles;
 use crate::names::Names;
 use crate::output_device::OutputDevice;
@@ -35,6 +36,8 @@ pub struct Destination<'f> {
     pub name: &'f str,
     /// Whether the decision lines are written as JSON objects, too, by one who looks on at the run.
     pub objects: bool,
+    /// Whether something is printed besides.
+    pub prints: bool,
 }
 
 /// A file that is written in blocks, whose octets are summed where a part writes it.
@@ -74,39 +77,70 @@ pub struct Opened<F: Drop> {
     part_file: Option<F>,
 }
 
-/// Refuses an output that is one of the files that are read: to write it would be to cut what is still to be read. The same of
-/// what a part leaves besides, which a whole run takes away.
+/// Refuses an output that is one of the files that are read, since to write it would be to cut what is still to be read, and one
+/// that is another output or, where something is printed, what standard output is. Of what a part leaves besides, which a run
+/// takes away, those that are read are refused. A part reads its decision lines again: where they stand, a regular file has to be.
 pub fn spare_inputs<R: Files + AllocGlobal>(
     rt: &R,
     to: Destination<'_>,
     names: Names<'_, '_>,
+    is_part: bool,
 ) -> Result<(), Failure<'static>> {
-    let folder = to.name;
-    let inputs = names.found(rt)?;
-    for index in 0..names.ports.len() {
-        spare(rt, folder, &inputs, OutputFile::Port(index + 1))?;
+    let mut apart = Apart::new(rt.alloc(), to.name);
+    names.add_to(rt, &mut apart)?;
+    if to.prints {
+        apart.add_printed(rt)?;
     }
-    spare(rt, folder, &inputs, OutputFile::Underlay)?;
-    spare(rt, folder, &inputs, OutputFile::Decisions)?;
+    apart.see_outputs(rt, names.ports.len())?;
     if to.objects {
-        spare(rt, folder, &inputs, OutputFile::Objects)?;
+        apart.see(rt, OutputFile::Objects)?;
     }
-    spare(rt, folder, &inputs, OutputFile::PartRecord)?;
-    spare(rt, folder, &inputs, OutputFile::Tables)?;
-    spare(rt, folder, &inputs, OutputFile::Summary)
+    if is_part {
+        apart.see(rt, OutputFile::PartRecord)?;
+        see_lines(rt, to.name)?;
+    } else {
+        apart.see_removed(rt, OutputFile::PartRecord)?;
+    }
+    apart.see_removed(rt, OutputFile::Tables)?;
+    apart.see_removed(rt, OutputFile::Summary)
 }
 
-/// Refuses this output if it is one of the files that are read.
-fn spare<R: Files + AllocGlobal>(
+/// Refuses decision lines that are none of a regular file, where there are any.
+fn see_lines<R: Files + AllocGlobal>(rt: &R, folder: &str) -> Result<(), Failure<'static>> {
+    if is_read_again(rt, folder, OutputFile::Decisions)? {
+        Ok(())
+    } else {
+        Err(Failure::ReadAgain(OutputFile::Decisions))
+    }
+}
+
+/// Whether an output can be read as often as one likes, or isn't there.
+pub fn is_read_again<R: Files + AllocGlobal>(
     rt: &R,
     folder: &str,
-    inputs: &FoundFiles,
     output: OutputFile,
-) -> Result<(), Failure<'static>> {
+) -> Result<bool, AllocError> {
     let path = path_of(rt.alloc(), folder, output)?;
     match fs::metadata(rt, path.as_path()) {
-        Ok(found) if inputs.have(&found) => Err(Failure::Write(output)),
-        _ => Ok(()),
+        Ok(found) => Ok(found.is_file()),
+        Err(_) => Ok(true),
+    }
+}
+
+/// How many files a run or a part may leave in its folder, the mark among them.
+pub const FILES_OF_A_RUN: usize = MOST_PORTS + 7;
+
+/// The file of this number of those that a run or a part may leave in its folder.
+pub fn file_of_run(index: usize) -> OutputFile {
+    match index.checked_sub(MOST_PORTS) {
+        None => OutputFile::Port(index.saturating_add(1)),
+        Some(0) => OutputFile::Underlay,
+        Some(1) => OutputFile::Decisions,
+        Some(2) => OutputFile::Objects,
+        Some(3) => OutputFile::PartRecord,
+        Some(4) => OutputFile::Tables,
+        Some(5) => OutputFile::Summary,
+        Some(_) => OutputFile::Mark,
     }
 }
 
@@ -160,18 +194,26 @@ pub fn open_outputs<R: Files + AllocGlobal>(
     })
 }
 
-/// Sees that the decision lines can be written as objects, where they are to be: their file is made where it isn't there. What
-/// stands in it is kept.
-pub fn see_objects<R: Files + AllocGlobal>(
+/// Opens the file of the decision lines as objects, where they are to be written so, and makes it where it isn't there. What
+/// stands in it is kept. A pipe or a device isn't opened, since who reads it would see an end when it is let go.
+pub fn open_objects<R: Files + AllocGlobal>(
     rt: &R,
     to: Destination<'_>,
-) -> Result<(), Failure<'static>> {
-    if !to.objects {
-        return Ok(());
+) -> Result<Option<R::File>, Failure<'static>> {
+    if !to.objects || !is_read_again(rt, to.name, OutputFile::Objects)? {
+        return Ok(None);
     }
     match open(rt, to.name, OutputFile::Objects) {
-        Ok(_) => Ok(()),
+        Ok(file) => Ok(Some(file)),
         Err(failure) => Err(failure),
+    }
+}
+
+/// Empties the file of the decision lines as objects, where one was opened, and lets it go.
+pub fn empty_objects<F: OpenFile + Drop>(file: Option<F>) -> Result<(), Failure<'static>> {
+    match file {
+        Some(file) => cut(&file).map_err(|error| Failure::writing(OutputFile::Objects, &error)),
+        None => Ok(()),
     }
 }
 
@@ -187,6 +229,22 @@ fn open<R: Files + AllocGlobal>(
         .create(true)
         .open(rt, path.as_path())
         .map_err(|error| Failure::writing(output, &error))
+}
+
+impl<F: OpenFile + Drop> Opened<F> {
+    /// Refuses two of the files that are one: where a link led nowhere, the file wasn't there to be asked before it was opened.
+    pub fn see_apart(&self, alloc: Global) -> Result<(), Failure<'static>> {
+        let mut others = FoundFiles::none(alloc);
+        for (index, file) in self.ports.iter().enumerate() {
+            see_open(&mut others, file, OutputFile::Port(index.saturating_add(1)))?;
+        }
+        see_open(&mut others, &self.underlay, OutputFile::Underlay)?;
+        see_open(&mut others, &self.decisions, OutputFile::Decisions)?;
+        match &self.part_file {
+            Some(file) => see_open(&mut others, file, OutputFile::PartRecord),
+            None => Ok(()),
+        }
+    }
 }
 
 impl<F: Write + OpenFile + Drop> Opened<F> {

@@ -1,5 +1,5 @@
 //! Parts of a run: some of its segments, and what they were made from.
-ghost use Rattle.std.specs.Prelude.{IfOk};
+ghost use Rattle.std.specs.Prelude.{◌≡◌, IfOk, None, OnErr, OnOk};
 ghost use Rattle.part_record.specs.Lent.{HaveOctets};
 
 use crate::digests::{lent_digests, take_digests};
@@ -9,14 +9,16 @@ use crate::outbound::Outbound;
 use arrayvec::ArrayVec;
 use capture_run::RunFault;
 use part_record::{
-    CaptureDigests, LentFault, MOST_PORTS, OutputFacts, PartRecord, ToldOutputs, see_octets,
-    text_of,
+    CaptureDigests, LentFault, MOST_PORTS, OutputFacts, PartRecord, ToldOutputs, ToldTexts,
+    put_texts, see_octets, text_of,
 };
 use program_faults::{DigestsFailure, Failure, OutputFile};
-use program_files::{Names, OutputSums, PartLines, PartRecordFile, count_lines};
+use program_files::{
+    Destination, Mark, Names, OutputSums, PartLines, PartRecordFile, count_lines, leave_text,
+};
 use segment_set::SegmentSet;
 use sha2::{Digest, Sha256};
-use std::alloc::Global;
+use std::alloc::{AllocError, Global};
 use std::io::{Input, Write};
 use std::rt::Files;
 use text_calls::tap_of;
@@ -33,25 +35,66 @@ pub struct Ran<F: Drop> {
     part_file: Option<F>,
     /// What it was made from.
     record: Vec<u8>,
+    /// What the part left of what it printed.
+    left: ToldTexts,
+    /// What says of the folder, where one is named, that the run isn't done.
+    mark: Option<Mark>,
 }
 
 impl<F: Write + Drop> Ran<F> {
     /// A run that doesn't say what it was made from.
-    fn whole(alloc: Global, cut: Vec<Tap>, outbound: Vec<Outbound>) -> Ran<F> {
+    fn whole(alloc: Global, cut: Vec<Tap>, outbound: Vec<Outbound>, mark: Option<Mark>) -> Ran<F> {
         Ran {
             cut,
             outbound,
             part_file: None,
             record: Vec::new(alloc),
+            left: ToldTexts::default(),
+            mark,
         }
     }
 
-    /// Writes what a part was made from, once. No merge takes a part before.
-    pub fn finish(&mut self) -> Result<(), Failure<'static>> {
-        match self.part_file.take() {
-            Some(file) => write_part_record(file, self.record.as_slice()),
-            None => Ok(()),
+    /// Writes the tables or the counts of a part that is written into its folder. What else is run leaves neither.
+    pub fn leave<R: Files + AllocGlobal>(
+        &mut self,
+        rt: &R,
+        folder: &str,
+        output: OutputFile,
+        text: &[u8],
+    ) -> Result<(), Failure<'static>> {
+        if self.part_file.is_none() {
+            return Ok(());
         }
+        let sum = leave_text(rt, folder, output, text)?;
+        match output {
+            OutputFile::Tables => self.left.tables = Some(sum),
+            OutputFile::Summary => self.left.summary = Some(sum),
+            _ => {}
+        }
+        Ok(())
+    }
+
+    /// Writes what a part was made from and left, once, and takes the mark away that says that the run isn't done. No merge takes
+    /// a part before.
+    pub fn finish<R: Files>(&mut self, rt: &R) -> Result<(), Failure<'static>>
+        ensures done { OnOk result ((self.new.part_file ≡ None) × (self.new.mark ≡ None)) }
+        ensures marked { OnErr result (self.new.mark ≡ self.old.mark) }
+    {
+        if let Some(file) = self.part_file.take() {
+            if put_texts(&mut self.record, self.left).is_err() {
+                return Err(Failure::from(AllocError));
+            }
+            if let Err(failure) = write_part_record(file, self.record.as_slice()) {
+                return Err(failure);
+            }
+        }
+        if let Some(mark) = &self.mark {
+            if let Err(failure) = mark.clear(rt) {
+                return Err(failure);
+            }
+        }
+        self.mark = None;
+        Ok(())
     }
 }
 
@@ -69,12 +112,13 @@ pub(crate) fn ran_of<'a, R: Files + Input + AllocGlobal>(
         underlay,
         part_file,
     } = done;
+    let mark = mark_of(rt.alloc(), job.folder)?;
     let Scope::Part(part) = job.scope else {
-        return Ok(Ran::whole(rt.alloc(), cut, outbound));
+        return Ok(Ran::whole(rt.alloc(), cut, outbound, mark));
     };
     let cut = cut_told(rt.alloc(), cut, part.segments);
     let (Some(folder), Some(part_file)) = (job.folder, part_file) else {
-        return Ok(Ran::whole(rt.alloc(), cut, outbound));
+        return Ok(Ran::whole(rt.alloc(), cut, outbound, mark));
     };
     let digests = match digests_behind(rt, job.names, lent, ports.as_slice(), underlay) {
         Ok(digests) => digests,
@@ -93,7 +137,17 @@ pub(crate) fn ran_of<'a, R: Files + Input + AllocGlobal>(
         outbound,
         part_file: Some(file),
         record,
+        left: ToldTexts::default(),
+        mark,
     })
+}
+
+/// The mark of the folder that a run is written into, where one is named.
+fn mark_of(alloc: Global, folder: Option<Destination<'_>>) -> Result<Option<Mark>, AllocError> {
+    match folder {
+        Some(folder) => Ok(Some(Mark::of(alloc, folder.name)?)),
+        None => Ok(None),
+    }
 }
 
 /// What the decision lines tell together that a part wrote into this folder.

@@ -3,11 +3,13 @@ ghost use Rattle.std.specs.Prelude.{◌≡◌, ◌≤◌};
 ghost use Rattle.split_on_files.specs.Pass.{IsPlaced};
 
 use crate::capture_split::{Lanes, Step, Taken, take_next};
-use crate::split_file::{SplitFile, open_split_file};
+use crate::split_file::{SplitFile, Standing, open_split_file};
 use pcap::stream::Input;
 use pcapng_input::{Gathered, PcapngFault, Stop};
 use program_faults::{Failure, SplitFailure};
+use program_files::FoundFiles;
 use std::alloc::AllocError;
+use std::io::Write;
 use std::rt::Files;
 
 /// How many files are written at most.
@@ -20,8 +22,15 @@ pub struct Place<'a> {
     pub folder: &'a str,
     /// The capture's name, as it was given.
     pub capture: &'a str,
-    /// The file that it stands for.
-    pub file: &'a str,
+}
+
+/// The files that a capture is split into, as far as they are open.
+#[derive(Drop)]
+pub struct SplitFiles<F: Write + Drop> {
+    /// Those of interface 0, 1 and so on.
+    pub files: Vec<SplitFile<F>>,
+    /// What a further one must not be.
+    pub taken: FoundFiles<Standing>,
 }
 
 /// How a capture ends.
@@ -41,7 +50,7 @@ pub fn pass_over<'a, R: Files + AllocGlobal, I: Input>(
     place: Place<'a>,
     gathered: &mut Gathered<I>,
     lanes: &mut Lanes,
-    files: &mut Vec<SplitFile<R::File>>,
+    files: &mut SplitFiles<R::File>,
 ) -> Result<Ending, Failure<'a>>
     requires placed { IsPlaced lanes.old gathered.old }
 {
@@ -50,7 +59,7 @@ pub fn pass_over<'a, R: Files + AllocGlobal, I: Input>(
         match take_next(gathered, lanes, &mut room) {
             Ok(Step::Block(Taken::Nothing)) => {}
             Ok(Step::Block(Taken::Packet(number))) => {
-                write_record(rt, files.as_mut_slice(), number, room.as_slice())?;
+                write_record(rt, files.files.as_mut_slice(), number, room.as_slice())?;
             }
             Ok(Step::Block(Taken::Described(number))) => {
                 open_if_new(rt, place, files, number, room.as_slice())?;
@@ -89,22 +98,22 @@ fn write_record<R: AllocGlobal + Files>(
 fn open_if_new<'a, R: Files + AllocGlobal>(
     rt: &R,
     place: Place<'a>,
-    files: &mut Vec<SplitFile<R::File>>,
+    split: &mut SplitFiles<R::File>,
     number: u32,
     name: &[u8],
 ) -> Result<(), Failure<'a>> {
-    if (number as usize) < files.len() {
+    if (number as usize) < split.files.len() {
         return Ok(());
     }
-    if files.len() >= MOST_FILES {
+    if split.files.len() >= MOST_FILES {
         let fault = SplitFailure::TooManyInterfaces;
         return Err(Failure::Split(place.capture, fault));
     }
-    let file = match open_split_file(rt, place.folder, place.file, number, name) {
+    let file = match open_split_file(rt, place.folder, &mut split.taken, number, name) {
         Ok(file) => file,
         Err(failure) => return Err(failure),
     };
-    match files.push(file) {
+    match split.files.push(file) {
         Ok(()) => Ok(()),
         Err(_) => Err(Failure::from(AllocError)),
     }

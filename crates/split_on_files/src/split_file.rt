@@ -2,10 +2,10 @@
 use crate::naming::file_name;
 use pcap::stream::{BlockOutput, Output, StdOutput};
 use pcap::text::global_header;
-use program_faults::{Failure, SystemFault, UnwrittenFile};
-use program_files::{OutputDevice, is_same};
+use program_faults::{Failure, OutputFile, SystemFault, Unwritten, UnwrittenFile};
+use program_files::{FILES_OF_A_RUN, FoundFiles, OutputDevice, file_of_run, path_of};
 use std::alloc::{AllocError, Global};
-use std::fs::{self, OpenOptions};
+use std::fs::OpenOptions;
 use std::io::Write;
 use std::path::{Path, PathBuf};
 use std::rt::Files;
@@ -45,34 +45,74 @@ impl<F: Write + Drop> SplitFile<F> {
     /// Why it couldn't be written.
     fn failure(&self, alloc: Global) -> Failure<'static> {
         let fault = self.output.output().writer().fault();
-        unwritten(alloc, self.path.as_path(), fault)
+        unwritten(alloc, self.path.as_path(), Unwritten::of(fault))
     }
 }
 
 /// That what stands at a path couldn't be written.
-fn unwritten(alloc: Global, path: Path<'_>, fault: Option<SystemFault>) -> Failure<'static> {
+fn unwritten(alloc: Global, path: Path<'_>, why: Unwritten) -> Failure<'static> {
     match format!(in alloc; "{path}", path = path.as_str()) {
-        Ok(path) => Failure::Unwritten(UnwrittenFile { path, fault }),
+        Ok(path) => Failure::Unwritten(UnwrittenFile { path, why }),
         Err(error) => Failure::from(error),
     }
 }
 
-/// Opens the file of the interface with this number and name in a folder, empties it, and writes the header of its capture. The
-/// file that is split isn't opened.
-pub fn open_split_file<R: Files + AllocGlobal>(
+/// What a file is already that a file which a capture is split into must not be.
+#[derive(Clone, Copy)]
+pub enum Standing {
+    /// The capture that is split.
+    Capture,
+    /// What standard output is, where the list is printed.
+    Printed,
+    /// What a run wrote into the folder.
+    Run(OutputFile),
+    /// The file of the interface with this number.
+    Split(u32),
+}
+
+/// What a capture's file and the folder that it is split into have already.
+pub fn taken_in<R: Files + AllocGlobal>(
     rt: &R,
     folder: &str,
     capture_file: &str,
+) -> Result<FoundFiles<Standing>, AllocError> {
+    let mut taken = FoundFiles::none(rt.alloc());
+    taken.note(rt, Path::new(capture_file), Standing::Capture)?;
+    taken.note(rt, Path::new("/dev/stdout"), Standing::Printed)?;
+    for index in 0..FILES_OF_A_RUN {
+        let output = file_of_run(index);
+        let path = path_of(rt.alloc(), folder, output)?;
+        taken.note(rt, path.as_path(), Standing::Run(output))?;
+    }
+    Ok(taken)
+}
+
+/// Why a file isn't written that is this one.
+fn why_not(alloc: Global, folder: &str, taken: Standing) -> Result<Unwritten, AllocError> {
+    let name = match taken {
+        Standing::Capture => return Ok(Unwritten::Untold),
+        Standing::Printed => format!(in alloc; "standard output")?,
+        Standing::Run(output) => format!(in alloc; "{folder}/{output}")?,
+        Standing::Split(number) => format!(in alloc; "that of interface {number}")?,
+    };
+    Ok(Unwritten::Is(name))
+}
+
+/// Opens the file of the interface with this number and name in a folder, empties it, and writes the header of its capture. One
+/// that is taken isn't opened, and what is opened is taken then.
+pub fn open_split_file<R: Files + AllocGlobal>(
+    rt: &R,
+    folder: &str,
+    taken: &mut FoundFiles<Standing>,
     number: u32,
     interface: &[u8],
 ) -> Result<SplitFile<R::File>, Failure<'static>> {
     let alloc = rt.alloc();
     let name = file_name(alloc, number, interface)?;
     let path = Path::new(folder).join(alloc, name.as_str())?;
-    if let Ok(found) = fs::metadata(rt, path.as_path()) {
-        if found.is_file() && is_same(rt, Path::new(capture_file), &found) {
-            return Err(unwritten(alloc, path.as_path(), None));
-        }
+    if let Some(other) = taken.at_path(rt, path.as_path()) {
+        let why = why_not(alloc, folder, other)?;
+        return Err(unwritten(alloc, path.as_path(), why));
     }
     let opened = OpenOptions::new()
         .write(true)
@@ -81,8 +121,12 @@ pub fn open_split_file<R: Files + AllocGlobal>(
         .open(rt, path.as_path());
     let file = match opened {
         Ok(file) => file,
-        Err(error) => return Err(unwritten(alloc, path.as_path(), SystemFault::of(&error))),
+        Err(error) => {
+            let why = Unwritten::of(SystemFault::of(&error));
+            return Err(unwritten(alloc, path.as_path(), why));
+        }
     };
+    taken.note(rt, path.as_path(), Standing::Split(number))?;
     let mut interface_name = Vec::new(alloc);
     interface_name.extend_from_slice(interface)?;
     let output = BlockOutput::new(alloc, StdOutput::new(OutputDevice::new(file)), BLOCK)?;

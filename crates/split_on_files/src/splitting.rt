@@ -1,8 +1,8 @@
 //! A capture split into files.
 use crate::capture_split::Lanes;
 use crate::listing::listing;
-use crate::pass::{Ending, Place, number_at, pass_over};
-use crate::split_file::SplitFile;
+use crate::pass::{Ending, Place, SplitFiles, number_at, pass_over};
+use crate::split_file::{SplitFile, taken_in};
 use command_line::capture_name;
 use pcapng_input::Gathered;
 use program_faults::{Failure, SplitFailure};
@@ -26,16 +26,16 @@ pub fn split<'a, R: Files + Input + AllocGlobal + Print>(
     if asked.interface.is_some() {
         return Err(Failure::Split(capture, SplitFailure::OneInterface));
     }
-    let place = Place {
-        folder,
-        capture,
-        file: file_of(capture),
-    };
+    let place = Place { folder, capture };
     let blocks = open_blocks(rt, capture, asked.file)?;
     let mut gathered = Gathered::new(rt.alloc(), blocks, READS)?;
     let mut lanes = Lanes::new(rt.alloc());
-    let mut files = Vec::new(rt.alloc());
-    let passed = pass_over(rt, place, &mut gathered, &mut lanes, &mut files);
+    let mut split = SplitFiles {
+        files: Vec::new(rt.alloc()),
+        taken: taken_in(rt, folder, file_of(capture))?,
+    };
+    let passed = pass_over(rt, place, &mut gathered, &mut lanes, &mut split);
+    let mut files = split.files;
     let is_cut = ends_cut(&passed);
     let ended = end_files(rt, files.as_mut_slice(), &lanes, is_cut);
     let ending = passed?;

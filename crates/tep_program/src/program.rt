@@ -14,14 +14,17 @@ use command_line::{Line, LineFault, line_of};
 use compare_on_files::{Compared, Worked, compare, compare_worked, no_table, no_table_name};
 use explanation::sample::sample;
 use explanation::{Values, explain_bytes};
-use fault_notes::{tell_causes, tell_failed_besides, tell_next_step, tell_notes, tell_open_files};
+use fault_notes::{
+    has_unended, tell_causes, tell_failed_besides, tell_next_step, tell_notes, tell_open_files,
+    tell_unended,
+};
 use json_lines::kinds::Kind;
 use merge_on_files::{TextsAsked, merge};
 use overlay_config::migrate;
 use page_on_files::make_page;
 use program_faults::{Failure, OutputFile, is_lost};
 use program_files::{
-    FailedOutputs, Names, Shown, print_shown, print_text, read_file, read_underlay,
+    ClosedStreams, FailedOutputs, Names, Shown, print_shown, print_text, read_file, read_underlay,
 };
 use run_progress::Screen;
 use run_reports::is_event_name;
@@ -41,6 +44,7 @@ const WORDS_REFUSED: u8 = 2;
 pub fn start<R: Env + Files + Input + AllocGlobal + Print + Eprint + Clock + Screen>(
     rt: &R,
 ) -> ExitCode {
+    let _streams = ClosedStreams::fill(rt);
     let status = match env::args(rt) {
         Ok(words) => status(rt, words),
         Err(error) if error.kind() == ErrorKind::OutOfMemory => Err(AllocError),
@@ -140,14 +144,17 @@ fn performed<'a, R: Files + Input + AllocGlobal + Print + Eprint + Clock + Scree
     ensures { IsDoneStatus result }
 {
     let mut failed = FailedOutputs::new();
+    let unended = has_unended(rt, line);
     match perform(rt, line, &mut failed) {
         Ok(()) => {
+            tell_unended(rt, line, unended);
             tell_notes(rt, line);
             0
         }
         Err(failure) => {
             let status = stopped(rt, &failure);
             tell_causes(rt, line, &failure);
+            tell_unended(rt, line, unended);
             tell_failed_besides(rt, line, &failure, failed.as_slice());
             tell_next_step(rt, line, &failure);
             tell_open_files(rt, line, &failure);

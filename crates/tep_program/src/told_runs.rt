@@ -18,7 +18,7 @@ use run_reports::{Onlooker, Reports};
 use runs_on_files::{Job, ListedPart, Ran, Scope, Texts, run_on_files};
 use segment_set::SegmentSet;
 use std::alloc::{AllocError, Global};
-use std::io::{Input, Write};
+use std::io::Input;
 use std::rt::Files;
 use std::time::Clock;
 use stream_run::{Beside, Sieve, TakesAll, Unwatched, Watch};
@@ -91,7 +91,7 @@ pub fn run_and_tell<'a, R: Files + Input + AllocGlobal + Print + Eprint + Clock 
         segments: &segments,
     };
     // A fault stands on the first line of standard error, so that what was left out is told behind a run that is done alone.
-    let Some(sieve) = sieve_for(rt.alloc(), &texts, asked.within)? else {
+    let Some(sieve) = sieve_for(rt.alloc(), asked.within)? else {
         let ran = run_plain(rt, job, progress, failed)?;
         tell_outbound(rt, ran.outbound.as_slice());
         return Ok(());
@@ -111,7 +111,7 @@ fn run_plain<'r, 'a, R: Files + Input + AllocGlobal + Print + Eprint + Clock>(
 ) -> Result<Ran<R::File>, Failure<'a>> {
     if job.asked.is_nothing() && !job.asked.json && progress.is_none() {
         let run = run_asked(rt, job, None, &mut TakesAll, &mut Unwatched, failed);
-        return finished(run);
+        return finished(rt, run);
     }
     let (ran, _) = run_taken(rt, job, TakesAll, Unwatched, progress, failed)?;
     Ok(ran)
@@ -174,9 +174,8 @@ fn run_shown<
     let Beside { other: objects, .. } = watch;
     match run {
         Ok(ran) => {
-            let written = finish_objects(objects, &sieve, ran.cut.as_slice());
-            let ran = finished(Ok(ran))?;
-            written?;
+            finish_objects(objects, &sieve, ran.cut.as_slice())?;
+            let ran = finished(rt, Ok(ran))?;
             Ok((ran, sieve))
         }
         Err(failure) => {
@@ -187,11 +186,14 @@ fn run_shown<
 }
 
 /// A run that is done, and of a part what it was made from is written.
-fn finished<'a, F: Write + Drop>(run: Result<Ran<F>, Failure<'a>>) -> Result<Ran<F>, Failure<'a>> {
+fn finished<'a, R: Files>(
+    rt: &R,
+    run: Result<Ran<R::File>, Failure<'a>>,
+) -> Result<Ran<R::File>, Failure<'a>> {
     match run {
         Ok(ran) => {
             let mut ran = ran;
-            match ran.finish() {
+            match ran.finish(rt) {
                 Ok(()) => Ok(ran),
                 Err(failure) => Err(failure),
             }
@@ -255,9 +257,10 @@ fn run_watched<
                 onlooker: Onlooker { reports, counts },
                 tunnels,
                 talkers,
+                written,
             };
             let told = tell_all(rt, job.folder, asked, looked, &sieve, &mut ran);
-            match written.and(told).and(found) {
+            match told.and(found) {
                 Ok(()) => Ok((ran, sieve)),
                 Err(failure) => Err(failure),
             }
@@ -364,6 +367,7 @@ fn destination_of<'f>(folder: Option<&'f str>, asked: Asked<'_, '_>) -> Option<D
         Some(name) => Some(Destination {
             name,
             objects: asked.json,
+            prints: !asked.is_nothing(),
         }),
         None => None,
     }

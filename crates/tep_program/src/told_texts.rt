@@ -3,7 +3,7 @@ use crate::directions::{LeavesOut, records_at};
 use crate::told_runs::Asked;
 use json_lines::kinds::Kind;
 use program_faults::{Failure, OutputFile};
-use program_files::{Shown, leave_text, print_shown};
+use program_files::{Shown, print_shown};
 use run_counts::{RunCounts, put_cuts};
 use run_reports::{Onlooker, Reports};
 use runs_on_files::Ran;
@@ -19,10 +19,12 @@ pub(crate) struct LookedOn<'n, 'a> {
     pub(crate) onlooker: Onlooker<'n, 'a>,
     pub(crate) tunnels: Option<TunnelTraffic>,
     pub(crate) talkers: Option<Talkers>,
+    /// Whether the decision lines as objects could be written, where they were to be.
+    pub(crate) written: Result<(), Failure<'static>>,
 }
 
 /// Prints what a run told and counted. A part leaves its tables at the end and its counts in its folder before, and last what
-/// it was made from.
+/// it was made from, where all else was written.
 pub(crate) fn tell_all<R: Files + AllocGlobal + Print, L: LeavesOut>(
     rt: &R,
     folder: Option<&str>,
@@ -35,6 +37,7 @@ pub(crate) fn tell_all<R: Files + AllocGlobal + Print, L: LeavesOut>(
         onlooker,
         tunnels,
         talkers,
+        written,
     } = looked;
     let Onlooker { reports, counts } = onlooker;
     let Ok((told, tables)) = reports.into_texts() else {
@@ -42,14 +45,22 @@ pub(crate) fn tell_all<R: Files + AllocGlobal + Print, L: LeavesOut>(
     };
     let summary = summary_of(rt.alloc(), counts, tunnels, sieve, ran.cut.as_slice())?;
     let talks = talks_text(rt.alloc(), talkers)?;
-    let left = match leave_texts(rt, folder, asked, tables.as_slice(), summary.as_slice()) {
-        Ok(()) => ran.finish(),
+    let texts = PrintedTexts { tables, summary };
+    let left = match written {
+        Ok(()) => leave_all(rt, folder, asked, &texts, ran),
         Err(failure) => Err(failure),
     };
     left.and(print_as(rt, asked.json, Kind::Events, told.as_slice()))
-        .and(print_as(rt, asked.json, Kind::Tables, tables.as_slice()))
-        .and(print_as(rt, asked.json, Kind::Counts, summary.as_slice()))
+        .and(print_as(rt, asked.json, Kind::Tables, texts.tables.as_slice()))
+        .and(print_as(rt, asked.json, Kind::Counts, texts.summary.as_slice()))
         .and(print_as(rt, asked.json, Kind::Counts, talks.as_slice()))
+}
+
+/// What is printed of a run that a part leaves, too; empty, where it isn't asked for.
+#[derive(Drop)]
+struct PrintedTexts {
+    tables: Vec<u8>,
+    summary: Vec<u8>,
 }
 
 /// Who talked to whom, where that is asked for.
@@ -60,24 +71,23 @@ fn talks_text(alloc: Global, talkers: Option<Talkers>) -> Result<Vec<u8>, AllocE
     }
 }
 
-/// Writes the tables and the counts of a part into its folder, where it has one, as far as they are asked for.
-fn leave_texts<R: Files + AllocGlobal>(
+/// Writes the tables and the counts of a part into its folder, where it has one, as far as they are asked for, and then what it was
+/// made from.
+fn leave_all<R: Files + AllocGlobal>(
     rt: &R,
     folder: Option<&str>,
     asked: Asked<'_, '_>,
-    tables: &[u8],
-    summary: &[u8],
+    texts: &PrintedTexts,
+    ran: &mut Ran<R::File>,
 ) -> Result<(), Failure<'static>> {
-    let (Some(folder), Some(_)) = (folder, asked.segments) else {
-        return Ok(());
-    };
+    let folder = folder.unwrap_or("");
     if asked.tables {
-        leave_text(rt, folder, OutputFile::Tables, tables)?;
+        ran.leave(rt, folder, OutputFile::Tables, texts.tables.as_slice())?;
     }
     if asked.summary {
-        leave_text(rt, folder, OutputFile::Summary, summary)?;
+        ran.leave(rt, folder, OutputFile::Summary, texts.summary.as_slice())?;
     }
-    Ok(())
+    ran.finish(rt)
 }
 
 /// What a run counted, and what passed by tunnels, where that is asked for.

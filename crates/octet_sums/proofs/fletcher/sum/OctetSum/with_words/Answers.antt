@@ -5,9 +5,10 @@ use Rattle.octet_sums.proofs.fletcher.sum.OctetSum.with_words.Goals as goal
 pub loop-at-preserved : goal.loop-at-preserved
 loop-at-preserved c = record {
   bound = search rules;
-  word = λ more. c.with_word-sum.ensures.word;
+  word = λ more. c.with_block-count.ensures.word;
   sum = λ before is.
       let octets = c.args.octets.now in
-      sum_longer c.with_word-sum.result before octets c.loop-at.at 8
-      (c.with_word-sum.ensures.sum (before ++ take c.loop-at.at octets) (c.loop-at.invariant.sum before is));
+      let block = c.with_block-count in
+      sum_longer block.result.0 before octets c.loop-at.at block.result.1
+      (block.ensures.sum (before ++ take c.loop-at.at octets) (c.loop-at.invariant.sum before is));
 }

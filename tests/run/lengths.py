@@ -3,6 +3,7 @@ place that there may be.
 
 What is expected was worked out by hand from RFC 7348, RFC 8926, IEEE 802.1Q and docs/formats/, never taken from a run.
 """
+import random
 import struct
 import sys
 
@@ -245,20 +246,58 @@ def more_tunnels_than_rows():
     expect_lines("more networks than rows", "\n".join(summary), [*wanted, "unknown others 5"])
 
 
+def talk_frames(count):
+    """Frames of so many stations: most send once, in a random order, and 60 among them send up to 120 frames, a few at a time."""
+    rng = random.Random(count)
+    frames = [(0x10000 + n, 46 + n % 7) for n in range(count)]
+    for n in range(60):
+        frames += [(0x80000 + n, 46 + n)] * rng.randint(1, 120)
+    rng.shuffle(frames)
+    return frames
+
+
+def told_of(line):
+    """The station of a line and its words behind where the frames went, with `short 0` where that isn't told."""
+    words = line.split()
+    return int(words[2].replace(":", ""), 16) & 0xFFFFFF, [*words[7:], *([] if "short" in words else ["short", "0"])]
+
+
+def holds_of_talks(lines, others, sent):
+    """What docs/formats/lines.md says of more than 4,096 talks: each line and that of the others, against all frames sent."""
+    _, _, frames, octets, _, first, _, last = others.split()
+    most = max(int(told_of(line)[1][-1]) for line in lines)
+    left = [sum(len(moments) for moments in sent.values()), sum(octets for all_ in sent.values() for _, octets in all_)]
+    lacks = {station: all_ for station, all_ in sent.items()}
+    rest = []
+    for line in lines:
+        station, (count, size, _, begins, _, ends, _, short) = told_of(line)
+        mine = lacks.pop(station)
+        own = mine[len(mine) - int(count):]
+        assert len(mine) - int(count) <= int(short) <= most, line
+        assert [int(size), int(begins), int(ends)] == [sum(octets for _, octets in own), own[0][0], own[-1][0]], line
+        rest += mine[: len(mine) - int(count)]
+        left = [left[0] - int(count), left[1] - int(size)]
+    assert all(len(mine) <= most for mine in lacks.values()), (most, "a larger talk has no line")
+    rest = sorted(rest + [frame for mine in lacks.values() for frame in mine])
+    assert [int(frames), int(octets)] == left and [int(first), int(last)] == [rest[0][0], rest[-1][0]], others
+    assert 4000 * most <= sum(len(mine) for mine in sent.values()), others
+
+
 def more_talkers_than_rows():
-    """Frames of 4,100 stations, their addresses falling: the 4,096 least have lines, and the others one, though larger."""
-    captures = runs.Captures()
-    for n, station in enumerate(range(4100, 0, -1), 1):
-        length = 46 if station <= 4096 else 146
-        captures.of["p1"] += runs.record(n * 10**9, runs.octets(f"ALL 02000001{station:04X} 0806 00*{length}"))
-    told = runs.Run(runs.ENDPOINT, "", captures, words=["run", "--talkers"])
-    talks = [line for line in told.stdout.splitlines() if line.startswith("talk")]
-    wanted = []
-    for station in range(1, 4097):
-        moment = (4101 - station) * 10**9
-        address = f"02:00:00:01:{station // 256:02x}:{station % 256:02x}"
-        wanted.append(f"talk 10 {address} p1 > ff:ff:ff:ff:ff:ff flood 1 60 first {moment} last {moment}")
-    expect_lines("more talkers than rows", "\n".join(talks), [*wanted, "talk others 4 640 first 1000000000 last 4000000000"])
+    """Where more than 4,096 talks come, those of most frames have lines, and all that is told of them and the others holds."""
+    for count in (4096 - 60, 4097, 4200, 9000):
+        captures = runs.Captures()
+        sent = {}
+        for n, (station, length) in enumerate(talk_frames(count), 1):
+            captures.of["p1"] += runs.record(n * 10**6, runs.octets(f"ALL 020000{station:06X} 0806 00*{length}"))
+            sent.setdefault(station, []).append((n * 10**6, length + 14))
+        told = runs.Run(runs.ENDPOINT, "", captures, words=["run", "--talkers"])
+        talks = [line for line in told.stdout.splitlines() if line.startswith("talk")]
+        if len(sent) <= 4096:
+            assert len(talks) == len(sent) and not any("short" in line or "others" in line for line in talks)
+            continue
+        assert len(talks) == 4097, len(talks)
+        holds_of_talks(talks[:-1], talks[-1], sent)
 
 
 def main():

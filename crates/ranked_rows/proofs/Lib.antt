@@ -3,3 +3,7 @@ pub mod Places
 pub mod Numbering
 pub mod Shown
 pub mod Merging
+pub mod Counting
+pub mod Keeping
+pub mod Replacing
+pub mod Putting

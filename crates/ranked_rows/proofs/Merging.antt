@@ -2,8 +2,8 @@
 use Rattle.std.proofs.Common.{◌≡◌, ◌∙◌, ap, sym, refl, ℕ, zero, suc, ◌<◌, ◌≤◌, ◌⊎◌, inl, inr, List, [], ◌∷◌, ◌++◌, take, drop, arith}
 use Rattle.std.proofs.lemmas.Bool.{cases_lt, cond-true, cond-false, le-ltb, lt-ltb}
 use Rattle.ranked_rows.specs.Rows.{AreRisingFrom, Rows, all_counts, row_of, shown, together, total, with_counts, with_others}
-use Rattle.ranked_rows.specs.declared.row.Row.{Row}
-use Rattle.ranked_rows.proofs.Places.{rising_first, rising_more}
+use Rattle.ranked_rows.specs.declared.key_count.KeyCount.{KeyCount}
+use Rattle.ranked_rows.proofs.Places.{rise_less, rising_first, rising_more}
 use Rattle.ranked_rows.proofs.Shown.{AreSums, shown_all, sum_more, sum_none}
 
 -- a number below, equal to, or above another
@@ -22,7 +22,7 @@ order m n = by (cases_lt m n) (cases_lt n m)
 
 module _ {K C : Type 0} (rank : K → ℕ) (joined : C → C → C) (none : C) (sums : AreSums joined none) where
   abbrev Map : Type 0
-  Map = List (Row K C)
+  Map = List (KeyCount K C)
 
   -- what rows come to
   abbrev sum : Map → C
@@ -49,14 +49,14 @@ module _ {K C : Type 0} (rank : K → ℕ) (joined : C → C → C) (none : C) (
 
   -- ---- a row more
 
-  before : (key : K) (counts : C) (row : Row K C) (rows : Map) → rank row.key < rank key → counting key counts (row ∷ rows) ≡ row ∷ counting key counts rows
+  before : (key : K) (counts : C) (row : KeyCount K C) (rows : Map) → rank row.key < rank key → counting key counts (row ∷ rows) ≡ row ∷ counting key counts rows
   before key counts row rows lt = cond-true _ _ _ (lt-ltb (rank row.key) (rank key) lt)
 
-  behind : (key : K) (counts : C) (row : Row K C) (rows : Map) → rank key < rank row.key → counting key counts (row ∷ rows) ≡ row_of key counts ∷ row ∷ rows
+  behind : (key : K) (counts : C) (row : KeyCount K C) (rows : Map) → rank key < rank row.key → counting key counts (row ∷ rows) ≡ row_of key counts ∷ row ∷ rows
   behind key counts row rows lt =
       cond-false _ _ _ (le-ltb (rank row.key) (rank key) (omega (arith, lt))) ∙ cond-true _ _ _ (lt-ltb (rank key) (rank row.key) lt)
 
-  same : (key : K) (counts : C) (row : Row K C) (rows : Map) → rank row.key ≡ rank key → counting key counts (row ∷ rows) ≡ row_of row.key (joined row.counts counts) ∷ rows
+  same : (key : K) (counts : C) (row : KeyCount K C) (rows : Map) → rank row.key ≡ rank key → counting key counts (row ∷ rows) ≡ row_of row.key (joined row.counts counts) ∷ rows
   same key counts row rows is =
       cond-false _ _ _ (le-ltb (rank row.key) (rank key) (omega (arith, is))) ∙ cond-false _ _ _ (le-ltb (rank key) (rank row.key) (omega (arith, is)))
 
@@ -75,14 +75,14 @@ module _ {K C : Type 0} (rank : K → ℕ) (joined : C → C → C) (none : C) (
           ∙ sym (before k2 c2 x (counting k1 c1 rows) two) ∙ ap (counting k2 c2) (sym (before k1 c1 x rows one))
       by (equal one) q more =
           let two : rank x.key < rank k2 = omega (arith, one, lt) in
-          let new : Row K C = row_of x.key (joined x.counts c1) in
+          let new : KeyCount K C = row_of x.key (joined x.counts c1) in
           ap (counting k1 c1) (before k2 c2 x rows two) ∙ same k1 c1 x (counting k2 c2 rows) one
           ∙ sym (before k2 c2 new rows two) ∙ ap (counting k2 c2) (sym (same k1 c1 x rows one))
       by (above one) (below two) more =
           ap (counting k1 c1) (before k2 c2 x rows two) ∙ behind k1 c1 x (counting k2 c2 rows) one
           ∙ ap (λ (l : Map). row_of k1 c1 ∷ l) (sym (before k2 c2 x rows two)) ∙ sym (before k2 c2 (row_of k1 c1) (x ∷ rows) lt) ∙ ap (counting k2 c2) (sym (behind k1 c1 x rows one))
       by (above one) (equal two) more =
-          let new : Row K C = row_of x.key (joined x.counts c2) in
+          let new : KeyCount K C = row_of x.key (joined x.counts c2) in
           ap (counting k1 c1) (same k2 c2 x rows two) ∙ behind k1 c1 new rows one
           ∙ ap (λ (l : Map). row_of k1 c1 ∷ l) (sym (same k2 c2 x rows two)) ∙ sym (before k2 c2 (row_of k1 c1) (x ∷ rows) lt) ∙ ap (counting k2 c2) (sym (behind k1 c1 x rows one))
       by (above one) (above two) more =
@@ -108,10 +108,6 @@ module _ {K C : Type 0} (rank : K → ℕ) (joined : C → C → C) (none : C) (
 
   -- ---- rows whose ranks rise
 
-  rise_less : (m n : ℕ) (rows : Map) → m ≤ n → AreRisingFrom rank n rows → AreRisingFrom rank m rows
-  rise_less m n [] le is = tt
-  rise_less m n (row ∷ rows) le is = (omega (arith, le, is.0), is.1)
-
   rise_all : (start rows : Map) → AreRisingFrom rank 0 start → AreRisingFrom rank 0 (all start rows)
   rise_all start [] is = is
   rise_all start (row ∷ rows) is = rise_all (counting row.key row.counts start) rows (rising_more rank joined 0 row.key row.counts start (omega arith) is)
@@ -126,7 +122,7 @@ module _ {K C : Type 0} (rank : K → ℕ) (joined : C → C → C) (none : C) (
   under : (key : K) (counts : C) (start rows : Map) → AreRisingFrom rank (suc (rank key)) rows → counting key counts (all start rows) ≡ all (counting key counts start) rows
   under key counts start [] is = refl
   under key counts start (row ∷ rows) is =
-      under key counts (counting row.key row.counts start) rows (rise_less (suc (rank key)) (suc (rank row.key)) rows (omega (arith, is.0)) is.1)
+      under key counts (counting row.key row.counts start) rows (rise_less rank (suc (rank key)) (suc (rank row.key)) rows (omega (arith, is.0)) is.1)
       ∙ ap (λ (l : Map). all l rows) (commute key row.key counts row.counts start (omega (arith, is.0)))
 
   -- a row that is counted with them may come behind them
@@ -138,12 +134,12 @@ module _ {K C : Type 0} (rank : K → ℕ) (joined : C → C → C) (none : C) (
           → all start (counting key counts (row ∷ rows)) ≡ counting key counts (all start (row ∷ rows))
       by (below lt) more = ap (all start) (before key counts row rows lt) ∙ more
       by (equal e) more =
-          let next : AreRisingFrom rank (suc (rank key)) rows = rise_less (suc (rank key)) (suc (rank row.key)) rows (omega (arith, e)) is.1 in
+          let next : AreRisingFrom rank (suc (rank key)) rows = rise_less rank (suc (rank key)) (suc (rank row.key)) rows (omega (arith, e)) is.1 in
           ap (all start) (same key counts row rows e)
           ∙ ap (λ (l : Map). all l rows) (sym (again key row.key counts row.counts start e))
           ∙ sym (under key counts (counting row.key row.counts start) rows next)
       by (above gt) more =
-          let next : AreRisingFrom rank (suc (rank key)) rows = rise_less (suc (rank key)) (suc (rank row.key)) rows (omega (arith, gt)) is.1 in
+          let next : AreRisingFrom rank (suc (rank key)) rows = rise_less rank (suc (rank key)) (suc (rank row.key)) rows (omega (arith, gt)) is.1 in
           ap (all start) (behind key counts row rows gt)
           ∙ ap (λ (l : Map). all l rows) (sym (commute key row.key counts row.counts start gt))
           ∙ sym (under key counts (counting row.key row.counts start) rows next)
@@ -161,29 +157,29 @@ module _ {K C : Type 0} (rank : K → ℕ) (joined : C → C → C) (none : C) (
   -- ---- row by row
 
   -- a row below all that come stays the first
-  stays : (row : Row K C) (start rows : Map) → AreRisingFrom rank (suc (rank row.key)) rows → all (row ∷ start) rows ≡ row ∷ all start rows
+  stays : (row : KeyCount K C) (start rows : Map) → AreRisingFrom rank (suc (rank row.key)) rows → all (row ∷ start) rows ≡ row ∷ all start rows
   stays row start [] is = refl
   stays row start (more ∷ rows) is =
       ap (λ (l : Map). all l rows) (before more.key more.counts row start (omega (arith, is.0)))
-      ∙ stays row (counting more.key more.counts start) rows (rise_less (suc (rank row.key)) (suc (rank more.key)) rows (omega (arith, is.0)) is.1)
+      ∙ stays row (counting more.key more.counts start) rows (rise_less rank (suc (rank row.key)) (suc (rank more.key)) rows (omega (arith, is.0)) is.1)
 
   -- on their own they are what they are
   pub alone : (least : ℕ) (rows : Map) → AreRisingFrom rank least rows → all [] rows ≡ rows
   alone least [] is = refl
   alone least (row ∷ rows) is = stays row [] rows is.1 ∙ ap (λ (l : Map). row ∷ l) (alone (suc (rank row.key)) rows is.1)
 
-  at_below : (a b : Row K C) (start rows : Map) → rank a.key < rank b.key → AreRisingFrom rank (suc (rank b.key)) rows → all (a ∷ start) (b ∷ rows) ≡ a ∷ all start (b ∷ rows)
+  at_below : (a b : KeyCount K C) (start rows : Map) → rank a.key < rank b.key → AreRisingFrom rank (suc (rank b.key)) rows → all (a ∷ start) (b ∷ rows) ≡ a ∷ all start (b ∷ rows)
   at_below a b start rows lt is =
       ap (λ (l : Map). all l rows) (before b.key b.counts a start lt)
-      ∙ stays a (counting b.key b.counts start) rows (rise_less (suc (rank a.key)) (suc (rank b.key)) rows (omega (arith, lt)) is)
+      ∙ stays a (counting b.key b.counts start) rows (rise_less rank (suc (rank a.key)) (suc (rank b.key)) rows (omega (arith, lt)) is)
 
-  at_equal : (a b : Row K C) (start rows : Map) → rank a.key ≡ rank b.key → AreRisingFrom rank (suc (rank b.key)) rows
+  at_equal : (a b : KeyCount K C) (start rows : Map) → rank a.key ≡ rank b.key → AreRisingFrom rank (suc (rank b.key)) rows
       → all (a ∷ start) (b ∷ rows) ≡ row_of a.key (joined a.counts b.counts) ∷ all start rows
   at_equal a b start rows e is =
       ap (λ (l : Map). all l rows) (same b.key b.counts a start e)
-      ∙ stays (row_of a.key (joined a.counts b.counts)) start rows (rise_less (suc (rank a.key)) (suc (rank b.key)) rows (omega (arith, e)) is)
+      ∙ stays (row_of a.key (joined a.counts b.counts)) start rows (rise_less rank (suc (rank a.key)) (suc (rank b.key)) rows (omega (arith, e)) is)
 
-  at_above : (a b : Row K C) (start rows : Map) → rank b.key < rank a.key → AreRisingFrom rank (suc (rank b.key)) rows → all (a ∷ start) (b ∷ rows) ≡ b ∷ all (a ∷ start) rows
+  at_above : (a b : KeyCount K C) (start rows : Map) → rank b.key < rank a.key → AreRisingFrom rank (suc (rank b.key)) rows → all (a ∷ start) (b ∷ rows) ≡ b ∷ all (a ∷ start) rows
   at_above a b start rows lt is = ap (λ (l : Map). all l rows) (behind b.key b.counts a start lt) ∙ stays b (a ∷ start) rows is
 
   -- the first rows of the one are enough for the first of both

@@ -3,11 +3,11 @@ use Rattle.std.proofs.Common.{◌≡◌, ◌∙◌, ap, sym, refl, ℕ, zero, su
 use Rattle.std.proofs.Math.Seq.{drop-nil, take-nil}
 use Rattle.std.proofs.lemmas.List.{take-take}
 use Rattle.ranked_rows.specs.Rows.{Rows, all_counts, counted, counted_all, counted_in, no_rows, row_of, shown, total, with_counts}
-use Rattle.ranked_rows.specs.declared.row.Row.{Row}
+use Rattle.ranked_rows.specs.declared.key_count.KeyCount.{KeyCount}
 use Rattle.ranked_rows.proofs.Lists.{drop_taken}
 
 -- what many rows tell behind what others do
-pub counted_append : {K C : Type 0} (rank : K → ℕ) (joined : C → C → C) (none : C) (table : Rows K C) (xs ys : List (Row K C))
+pub counted_append : {K C : Type 0} (rank : K → ℕ) (joined : C → C → C) (none : C) (table : Rows K C) (xs ys : List (KeyCount K C))
     → counted_all rank joined none table (xs ++ ys) ≡ counted_all rank joined none (counted_all rank joined none table xs) ys
 counted_append rank joined none table [] ys = refl
 counted_append rank joined none table (x ∷ xs) ys = counted_append rank joined none (counted rank joined none table x.key x.counts) xs ys
@@ -37,22 +37,22 @@ module _ {K C : Type 0} (rank : K → ℕ) (joined : C → C → C) (none : C) (
 
   -- ---- what rows come to
 
-  abbrev sum : List (Row K C) → C
+  abbrev sum : List (KeyCount K C) → C
   sum rows = total joined none rows
 
-  pub sum_none : (rows : List (Row K C)) → joined (sum rows) none ≡ sum rows
+  pub sum_none : (rows : List (KeyCount K C)) → joined (sum rows) none ≡ sum rows
   sum_none [] = sums.nothing
   sum_none (row ∷ rows) = sums.whole row.counts (sum rows)
 
   -- with one row less, and that
-  sum_apart : (n : ℕ) (rows : List (Row K C)) → sum (drop n rows) ≡ joined (sum (drop (suc n) rows)) (sum (drop n (take (suc n) rows)))
+  sum_apart : (n : ℕ) (rows : List (KeyCount K C)) → sum (drop n rows) ≡ joined (sum (drop (suc n) rows)) (sum (drop n (take (suc n) rows)))
   sum_apart zero [] = sym sums.nothing
   sum_apart zero (row ∷ rows) = with_turned row.counts (sum rows)
   sum_apart (suc n) [] = sym sums.nothing
   sum_apart (suc n) (row ∷ rows) = sum_apart n rows
 
   -- with more of a key
-  pub sum_more : (key : K) (counts : C) (rows : List (Row K C)) → sum (with_counts rank joined key counts rows) ≡ joined (sum rows) (joined counts none)
+  pub sum_more : (key : K) (counts : C) (rows : List (KeyCount K C)) → sum (with_counts rank joined key counts rows) ≡ joined (sum rows) (joined counts none)
   sum_more key counts [] = sym (with_nothing counts)
   sum_more key counts (row ∷ rows) = by (nat_lt (rank row.key) (rank key)) (nat_lt (rank key) (rank row.key)) (sum_more key counts rows)
     where
@@ -65,7 +65,7 @@ module _ {K C : Type 0} (rank : K → ℕ) (joined : C → C → C) (none : C) (
 
   -- ---- the first rows
 
-  rows_more : (n : ℕ) (key : K) (counts : C) (rows : List (Row K C)) → take n (with_counts rank joined key counts (take n rows)) ≡ take n (with_counts rank joined key counts rows)
+  rows_more : (n : ℕ) (key : K) (counts : C) (rows : List (KeyCount K C)) → take n (with_counts rank joined key counts (take n rows)) ≡ take n (with_counts rank joined key counts rows)
   rows_more zero key counts rows = refl
   rows_more (suc n) key counts [] = refl
   rows_more (suc n) key counts (row ∷ rows) = by (nat_lt (rank row.key) (rank key)) (nat_lt (rank key) (rank row.key)) (rows_more n key counts rows)
@@ -77,7 +77,7 @@ module _ {K C : Type 0} (rank : K → ℕ) (joined : C → C → C) (none : C) (
       by false true more = ap (λ ys. row_of key counts ∷ ys) (take-take n (suc n) (row ∷ rows) (omega arith))
       by false false more = ap (λ ys. row_of row.key (joined row.counts counts) ∷ ys) (take-take n n rows (omega arith))
 
-  others_more : (n : ℕ) (key : K) (counts : C) (rows : List (Row K C))
+  others_more : (n : ℕ) (key : K) (counts : C) (rows : List (KeyCount K C))
       → joined (sum (drop n rows)) (sum (drop n (with_counts rank joined key counts (take n rows)))) ≡ sum (drop n (with_counts rank joined key counts rows))
   others_more zero key counts rows = sym (sum_more key counts rows)
   others_more (suc n) key counts [] = ap (λ rows. joined none (sum rows)) (drop-nil n) ∙ sums.nothing ∙ ap sum (sym (drop-nil n))
@@ -90,16 +90,16 @@ module _ {K C : Type 0} (rank : K → ℕ) (joined : C → C → C) (none : C) (
       by false true more = sym (sum_apart n (row ∷ rows))
       by false false more = ap (λ ys. joined (sum (drop n rows)) (sum ys)) (drop_taken n rows) ∙ sum_none (drop n rows)
 
-  pub shown_more : (n : ℕ) (rows : List (Row K C)) (key : K) (counts : C) → counted_in rank joined none n (shown joined none n rows) key counts ≡ shown joined none n (with_counts rank joined key counts rows)
+  pub shown_more : (n : ℕ) (rows : List (KeyCount K C)) (key : K) (counts : C) → counted_in rank joined none n (shown joined none n rows) key counts ≡ shown joined none n (with_counts rank joined key counts rows)
   shown_more n rows key counts = λ i. record { rows = rows_more n key counts rows i; others = others_more n key counts rows i }
 
   none_shown : (n : ℕ) → no_rows {K = K} none ≡ shown {K = K} joined none n []
   none_shown n = λ i. record { rows = sym (take-nil n) i; others = ap sum (sym (drop-nil n)) i }
 
-  pub shown_all : (rows more : List (Row K C)) → counted_all rank joined none (shown joined none 4096 rows) more ≡ shown joined none 4096 (all_counts rank joined rows more)
+  pub shown_all : (rows more : List (KeyCount K C)) → counted_all rank joined none (shown joined none 4096 rows) more ≡ shown joined none 4096 (all_counts rank joined rows more)
   shown_all rows [] = refl
   shown_all rows (row ∷ more) =
       ap (λ (table : Rows K C). counted_all rank joined none table more) (shown_more 4096 rows row.key row.counts) ∙ shown_all (with_counts rank joined row.key row.counts rows) more
 
-  pub all_shown : (rows : List (Row K C)) → counted_all rank joined none (no_rows none) rows ≡ shown joined none 4096 (all_counts rank joined [] rows)
+  pub all_shown : (rows : List (KeyCount K C)) → counted_all rank joined none (no_rows none) rows ≡ shown joined none 4096 (all_counts rank joined [] rows)
   all_shown rows = ap (λ (table : Rows K C). counted_all rank joined none table rows) (none_shown 4096) ∙ shown_all [] rows

@@ -5,11 +5,16 @@
 //! ([`Ranked`]), and what counts come to together each kind of them ([`Counts`]). It takes all that another one shows
 //! ([`RankedRows::add_all`]).
 //!
-//! Specs to read: `specs/Rows`.
+//! A [`FrequentRows`] has rows for the keys that come most often (`Frequency`), and each tells how often its key may have come
+//! before it had a row (`Since`).
+//!
+//! Specs to read: `specs/Rows`, `specs/Frequent`.
 //!
 //! Proved: a table shows the rows with the least ranks of all that was counted, whatever came first, and what all others come
 //! to (`laws::shows_the_first`). The tables of two parts come together as one table of all that both counted
-//! (`laws::comes_together`).
+//! (`laws::comes_together`). A table of frequent keys keeps of all that came what `specs/Frequent` says: no key without a row
+//! came more often than a 4,000th of it, each row counts all that came of its key but for as much as it tells, and nothing is
+//! left out while no more than 4,096 keys come (`FrequentRows::add`).
 //!
 //! Proved besides:
 //! - `add` always counts, since the rooms of all rows are there from `open` on.
@@ -23,14 +28,22 @@
 #![tactic(auto)]
 
 mod counts;
+mod frequency;
+mod frequent;
+mod giving_way;
 mod key;
+mod key_count;
 pub mod laws;
+mod least;
 mod lookup;
 mod numbers;
-mod row;
 mod rows;
+mod since;
 
 pub use counts::Counts;
+pub use frequency::Frequency;
+pub use frequent::FrequentRows;
 pub use key::Ranked;
-pub use row::Row;
+pub use key_count::KeyCount;
 pub use rows::RankedRows;
+pub use since::Since;

@@ -2,21 +2,21 @@
 ghost use Rattle.std.specs.Prelude.{◌≡◌, ◌<◌, ◌≤◌, IfOk, drop, length, slice_index_or, slice_set, take, vec_capacity};
 ghost use Rattle.std.specs.List.{insert};
 ghost use Rattle.ranked_rows.specs.Rows.{AreRising, IsNumbering, counted_or, row_of, rows_by, total, with_counts};
-ghost use Rattle.ranked_rows.specs.declared.row.Row.{Row as ARow};
+ghost use Rattle.ranked_rows.specs.declared.key_count.KeyCount.{KeyCount as Counted};
 
 use crate::counts::Counts;
 use crate::key::Ranked;
+use crate::key_count::KeyCount;
 use crate::lookup::{place_by, remember};
-use crate::row::Row;
 use crate::rows::MOST;
 use std::alloc::{AllocError, Global};
 
 /// The rows of these numbers, one after another.
 pub(crate) fn rows_in_order<K: Copy, C: Copy>(
     alloc: Global,
-    rows: &[Row<K, C>],
+    rows: &[KeyCount<K, C>],
     order: &[u16],
-) -> Result<Vec<Row<K, C>>, AllocError>
+) -> Result<Vec<KeyCount<K, C>>, AllocError>
     requires { IsNumbering rows.now order.now }
     ensures { IfOk result (λ sorted. sorted.items ≡ rows_by rows.now order.now) }
 {
@@ -29,7 +29,7 @@ pub(crate) fn rows_in_order<K: Copy, C: Copy>(
 
 /// Counts more of a key in rows, and answers what then has no place. None: all has its place.
 pub(crate) fn put<K: Ranked + Copy, C: Counts + Copy>(
-    rows: &mut Vec<Row<K, C>>,
+    rows: &mut Vec<KeyCount<K, C>>,
     order: &mut Vec<u16>,
     stood: &mut [u16],
     key: K,
@@ -54,14 +54,14 @@ pub(crate) fn put<K: Ranked + Copy, C: Counts + Copy>(
             more_of(rows, number, counts);
             None
         }
-        Err(at) => Some(enter(rows, order, stood, at, Row { key, counts })),
+        Err(at) => Some(enter(rows, order, stood, at, KeyCount { key, counts })),
     }
 }
 
 /// Counts more of the key of a row.
-fn more_of<K: Copy, C: Counts + Copy>(rows: &mut Vec<Row<K, C>>, number: usize, counts: C)
+fn more_of<K: Copy, C: Counts + Copy>(rows: &mut Vec<KeyCount<K, C>>, number: usize, counts: C)
     requires { number < length rows.old.items }
-    ensures rows { (d : ARow K C) → rows.new.items ≡ slice_set rows.old.items number
+    ensures rows { (d : Counted K C) → rows.new.items ≡ slice_set rows.old.items number
         (row_of (slice_index_or rows.old.items number d).key (C.joined (slice_index_or rows.old.items number d).counts counts)) }
     ensures room { vec_capacity rows.new ≡ vec_capacity rows.old }
 {
@@ -70,11 +70,11 @@ fn more_of<K: Copy, C: Counts + Copy>(rows: &mut Vec<Row<K, C>>, number: usize, 
 
 /// Enters a row at its place, and answers what then has no place.
 fn enter<K: Ranked + Copy, C: Counts + Copy>(
-    rows: &mut Vec<Row<K, C>>,
+    rows: &mut Vec<KeyCount<K, C>>,
     order: &mut Vec<u16>,
     stood: &mut [u16],
     at: usize,
-    row: Row<K, C>,
+    row: KeyCount<K, C>,
 ) -> C
     requires rising { AreRising K.rank (rows_by rows.old.items order.old.items) }
     requires numbers { IsNumbering rows.old.items order.old.items }
@@ -100,12 +100,12 @@ fn enter<K: Ranked + Copy, C: Counts + Copy>(
 }
 
 /// Puts a row behind all that came, and its number at its place.
-fn append<K: Ranked + Copy, C: Copy>(
-    rows: &mut Vec<Row<K, C>>,
+pub(crate) fn append<K: Ranked + Copy, C: Copy>(
+    rows: &mut Vec<KeyCount<K, C>>,
     order: &mut Vec<u16>,
     stood: &mut [u16],
     at: usize,
-    row: Row<K, C>,
+    row: KeyCount<K, C>,
 )
     requires numbers { IsNumbering rows.old.items order.old.items }
     requires inside { at ≤ length order.old.items }
@@ -127,11 +127,11 @@ fn append<K: Ranked + Copy, C: Copy>(
 
 /// Puts a row in the memory of the last in the order, and its number at its place; answers what has no place then.
 fn take_last<K: Ranked + Copy, C: Counts + Copy>(
-    rows: &mut Vec<Row<K, C>>,
+    rows: &mut Vec<KeyCount<K, C>>,
     order: &mut Vec<u16>,
     stood: &mut [u16],
     at: usize,
-    row: Row<K, C>,
+    row: KeyCount<K, C>,
 ) -> C
     requires rising { AreRising K.rank (rows_by rows.old.items order.old.items) }
     requires numbers { IsNumbering rows.old.items order.old.items }
@@ -158,7 +158,7 @@ fn take_last<K: Ranked + Copy, C: Counts + Copy>(
 }
 
 /// What a row alone comes to.
-fn total_of_one<K: Copy, C: Counts + Copy>(row: Row<K, C>) -> C
+fn total_of_one<K: Copy, C: Counts + Copy>(row: KeyCount<K, C>) -> C
     ensures { result ≡ C.joined row.counts C.none }
 {
     row.counts.with(C::none())

@@ -4,8 +4,8 @@ ghost use Rattle.ranked_rows.specs.Rows.{IsNumbering, counted, counted_all, coun
 
 use crate::counts::Counts;
 use crate::key::Ranked;
+use crate::key_count::KeyCount;
 use crate::numbers::{put, rows_in_order};
-use crate::row::Row;
 use std::alloc::{AllocError, Global};
 use std::marker::Model;
 
@@ -13,14 +13,14 @@ use std::marker::Model;
 pub(crate) const MOST: usize = 4096;
 
 /// So many numbers are remembered: one for each mix.
-const REMEMBERED: usize = 65_536;
+pub(crate) const REMEMBERED: usize = 65_536;
 
 /// What is counted of keys: rows in the order of their ranks, at most 4,096, and what all other keys come to; seen by contracts
 /// as these two. Only [`RankedRows::open`] and [`RankedRows::rows`] take memory; a table takes that of 4,096 rows and 136 KiB.
 #[derive(Drop)]
 pub struct RankedRows<K: Ranked + Copy, C: Counts + Copy> {
     /// Each stays where it came, until another takes its memory.
-    rows: Vec<Row<K, C>>,
+    rows: Vec<KeyCount<K, C>>,
     /// The numbers of all rows, in the order of their ranks.
     order: Vec<u16>,
     others: C,
@@ -59,7 +59,7 @@ impl<K: Ranked + Copy, C: Counts + Copy> RankedRows<K, C> {
     }
 
     /// The rows, in the order of their ranks. `AllocError`: memory was refused.
-    pub fn rows(&self, alloc: Global) -> Result<Vec<Row<K, C>>, AllocError>
+    pub fn rows(&self, alloc: Global) -> Result<Vec<KeyCount<K, C>>, AllocError>
         ensures { IfOk result (λ rows. rows.items ≡ self.now.rows) }
     {
         rows_in_order(alloc, self.rows.as_slice(), self.order.as_slice())
@@ -102,7 +102,7 @@ impl<K: Ranked + Copy, C: Counts + Copy> RankedRows<K, C> {
     }
 
     /// Counts what the rows of these numbers tell, one after another.
-    fn add_rows(&mut self, rows: &[Row<K, C>], order: &[u16])
+    fn add_rows(&mut self, rows: &[KeyCount<K, C>], order: &[u16])
         requires { IsNumbering rows.now order.now }
         ensures { self.new ≡ counted_all K.rank C.joined C.none self.old (rows_by rows.now order.now) }
     {

@@ -1,5 +1,5 @@
 -- Rows that are counted one after another, and a whole run.
-use Rattle.std.proofs.Common.{◌≡◌, ◌∙◌, ap, sym, refl, List, [], ◌∷◌, ◌++◌, map, Option, Some, None, Ok, Err}
+use Rattle.std.proofs.Common.{◌≡◌, ◌∙◌, ap, append_assoc, sym, refl, subst, List, [], ◌∷◌, ◌++◌, map, Option, Some, None, Ok, Err}
 use Rattle.std.specs.List.{FoldsTo, flat_map}
 use Rattle.filter_db.specs.declared.place.Place.{Place}
 use Rattle.overlay.specs.declared.settings.change.Change.{Change}
@@ -12,21 +12,29 @@ use Rattle.endpoint_core.specs.Decision.{Sent}
 use Rattle.endpoint_core.specs.Step.{Answer, opened, sent_at}
 use Rattle.segment_set.specs.Segments.{Segments}
 use Rattle.stream_run.specs.Sights.{Sight, sights}
-use Rattle.ranked_rows.specs.Rows.{Rows, counted}
-use Rattle.ranked_rows.specs.declared.row.Row.{Row}
-use Rattle.ranked_rows.proofs.Shown.{AreSums, all_shown}
-use Rattle.talkers.specs.Passed.{nothing, passed_with}
-use Rattle.talkers.specs.Sums.{nothing_is, with_grouped, with_turned, with_whole}
+use Rattle.ranked_rows.specs.Frequent.{Frequent}
+use Rattle.ranked_rows.specs.declared.key_count.KeyCount.{KeyCount}
+use Rattle.ranked_rows.proofs.Keeping.{keeps_none, nothing_behind}
+use Rattle.ranked_rows.specs.Rows.{row_of}
+use Rattle.talkers.specs.Passed.{nothing, one_frame, passed_with}
+use Rattle.talkers.specs.Sums.{frames_summed, no_frames, nothing_is, with_grouped, with_turned, with_whole}
 use Rattle.talkers.specs.Talk.{rank}
 use Rattle.talkers.specs.declared.rows.passed.Passed.{Passed}
+use Rattle.talkers.specs.declared.coming.Coming.{Coming}
+use Rattle.talkers.specs.declared.rows.talk.Exit.{Exit}
 use Rattle.talkers.specs.declared.rows.talk.Exit.TheVariants.{Drop}
 use Rattle.talkers.specs.declared.rows.talk.Talk.{Talk}
-use Rattle.talkers.specs.Run.{IsCounted, reply_rows, talks_in, talks_of}
-use Rattle.talkers.specs.Talkers.{Sees, SeesReply, Talkers, coming_of, exit_of, exit_to, rows_told}
+use Rattle.talkers.specs.Run.{IsCounted, reply_rows, talks_in}
+use Rattle.talkers.specs.Talkers.{KeepsOf, Sees, SeesReply, Takes, Talkers, coming_of, exit_of, exit_to, frames_of, talk_of, talk_rows}
 
-told_append : (table : Rows Talk Passed) (xs ys : List (Row Talk Passed)) → rows_told table (xs ++ ys) ≡ rows_told (rows_told table xs) ys
-told_append table [] ys = refl
-told_append table (x ∷ xs) ys = told_append (counted rank passed_with nothing table x.key x.counts) xs ys
+-- with no frames more all stays
+pub takes_none : (t : Frequent Talk Passed) → Takes t [] t
+takes_none t = λ came keeps. subst (λ (l : List (KeyCount Talk Passed)). KeepsOf l t) (sym (nothing_behind came)) keeps
+
+pub takes_one : (old new : Frequent Talk Passed) (coming : Coming) (to : Exit) (talk : Talk) (passed : Passed) → talk ≡ talk_of coming to → passed ≡ one_frame coming.octets coming.moment
+    → ((came : List (KeyCount Talk Passed)) → KeepsOf came old → KeepsOf (came ++ row_of talk passed ∷ []) new) → Takes old (talk_rows (Some coming) to) new
+takes_one old new coming to talk passed is counts more =
+    λ came keeps. subst (λ (row : KeyCount Talk Passed). KeepsOf (came ++ row ∷ []) new) (λ i. row_of (is i) (counts i)) (more came keeps)
 
 -- a frame is sent at the places that it goes to
 places_sent : (f : Place → Sent) → ((place : Place) → (f place).place ≡ place) → (places : List Place) → map (λ (o : Sent). o.place) (map f places) ≡ places
@@ -43,22 +51,21 @@ exit_refused S k refused places is = ap (λ (l : Forwarding). exit_of (decision_
 -- ---- a run
 
 told : (old : Talkers) (s : Sight) (new : Talkers) (r : Option Answer) → SeesReply old (record { state = s.state; number = s.number; event = s.event }) r new
-    → new.rows ≡ rows_told old.rows (reply_rows (coming_of s.state.bridges.settings s.event.moment s.event.happening) r)
-told old s new None is = ap (λ (t : Talkers). t.rows) is
-told old s new (Some a) is = ap (λ (t : Talkers). t.rows) is
+    → Takes old.rows (reply_rows (coming_of s.state.bridges.settings s.event.moment s.event.happening) r) new.rows
+told old s new None is = subst (λ (t : Talkers). Takes old.rows [] t.rows) (sym is) (takes_none old.rows)
+told old s new (Some a) is = is.rows
 
-folded : (seen : List Sight) (begun last : Talkers) → FoldsTo Sees begun seen last → last.rows ≡ rows_told begun.rows (flat_map talks_in seen)
-folded [] begun last h = ap (λ (t : Talkers). t.rows) (sym h)
+folded : (seen : List Sight) (begun last : Talkers) → FoldsTo Sees begun seen last → Takes begun.rows (flat_map talks_in seen) last.rows
+folded [] begun last h = subst (λ (t : Talkers). Takes begun.rows [] t.rows) h (takes_none begun.rows)
 folded (s ∷ seen) begun last h =
+    λ came keeps.
     let mid : Talkers = h.0 in
-    let mid_is = told begun s mid s.reply h.1 in
-    folded seen mid last h.2 ∙ ap (λ (t : Rows Talk Passed). rows_told t (flat_map talks_in seen)) mid_is ∙ sym (told_append begun.rows (talks_in s) (flat_map talks_in seen))
-
-sums : AreSums passed_with nothing
-sums = record { grouped = with_grouped; turned = with_turned; whole = with_whole; nothing = nothing_is }
+    subst (λ (l : List (KeyCount Talk Passed)). KeepsOf l last.rows) (append_assoc came (talks_in s) (flat_map talks_in seen))
+    (folded seen mid last h.2 (came ++ talks_in s) (told begun s mid s.reply h.1 came keeps))
 
 pub whole_run : (segments : Segments) (S : Settings) (cs : List Change) (es : List Event) (begun ended : Talkers) → IsCounted segments S cs es begun ended
-    → ended.rows ≡ talks_of (sights segments cs (opened S) 0 es)
+    → KeepsOf (flat_map talks_in (sights segments cs (opened S) 0 es)) ended.rows
 whole_run segments S cs es begun ended is =
-    let seen = sights segments cs (opened S) 0 es in
-    folded seen begun ended is.seen ∙ ap (λ (t : Talkers). rows_told t.rows (flat_map talks_in seen)) is.none ∙ all_shown rank passed_with nothing sums (flat_map talks_in seen)
+    folded (sights segments cs (opened S) 0 es) begun ended is.seen []
+    (subst (λ (t : Talkers). KeepsOf [] t.rows) (sym is.none)
+    (keeps_none rank passed_with nothing frames_of (record { grouped = with_grouped; turned = with_turned; whole = with_whole; nothing = nothing_is }) (record { summed = frames_summed; never = no_frames })))

@@ -1,3 +1,4 @@
 pub mod Brought
 pub mod Counting
+pub mod Ranks
 pub mod Sorted

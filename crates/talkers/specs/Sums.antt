@@ -1,5 +1,5 @@
 -- What passed, together: the laws of its counts. It states no standard.
-use Rattle.std.proofs.Common.{◌≡◌, ℕ, ◌+◌, max, min, refl, arith}
+use Rattle.std.proofs.Common.{◌≡◌, ◌≤◌, ℕ, ◌+◌, max, min, refl, arith}
 use Rattle.talkers.specs.Passed.{nothing, passed_with}
 use Rattle.talkers.specs.declared.rows.passed.Passed.{Passed}
 
@@ -66,3 +66,11 @@ with_whole a b = λ i. record {
 
 pub nothing_is : passed_with nothing nothing ≡ nothing
 nothing_is = refl
+
+-- ---- frames
+
+pub frames_summed : (a b : Passed) → (passed_with a b).frames ≤ min most (a.frames + b.frames)
+frames_summed a b = omega arith
+
+pub no_frames : nothing.frames ≡ 0
+no_frames = refl

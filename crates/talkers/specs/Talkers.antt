@@ -4,7 +4,7 @@
 --     talk_rows      what it counts as
 --     Talkers      what was counted, and the frame that is awaited
 --     Expects, Hears, Sees      an event more, an answer more, both
-use Rattle.std.specs.Prelude.{◌≡◌, ℕ, if◌then◌else◌, List, [], ◌∷◌, length, map, Option, Some, None, Result, Ok, Err}
+use Rattle.std.specs.Prelude.{◌≡◌, ℕ, if◌then◌else◌, List, [], ◌∷◌, ◌++◌, length, map, Option, Some, None, Result, Ok, Err}
 use Rattle.wire.specs.Frame.{size}
 use Rattle.wire.specs.declared.ether.reason.Reason.{Reason}
 use Rattle.wire.specs.declared.ether.reason.Refused.{Refused}
@@ -21,8 +21,9 @@ use Rattle.endpoint_core.specs.Arrival.{Arrival}
 use Rattle.endpoint_core.specs.Decision.{Decision}
 use Rattle.endpoint_core.specs.Step.{Answer, Decided, Replied}
 use Rattle.stream_run.specs.Sights.{Due, Sight}
-use Rattle.ranked_rows.specs.Rows.{Rows, counted_all, no_rows, row_of}
-use Rattle.ranked_rows.specs.declared.row.Row.{Row}
+use Rattle.ranked_rows.specs.Frequent.{Frequent, Keeps, nothing_yet}
+use Rattle.ranked_rows.specs.Rows.{row_of}
+use Rattle.ranked_rows.specs.declared.key_count.KeyCount.{KeyCount}
 use Rattle.talkers.specs.Passed.{nothing, one_frame, passed_with}
 use Rattle.talkers.specs.Talk.{rank}
 use Rattle.talkers.specs.declared.rows.passed.Passed.{Passed}
@@ -81,37 +82,46 @@ abbrev pub talk_of : Coming → Exit → Talk
 talk_of c to = record { vid = c.vid; source = c.source; from = c.from; destination = c.destination; to = to }
 
 -- what a frame counts as, where there is one
-abbrev pub talk_rows : Option Coming → Exit → List (Row Talk Passed)
+abbrev pub talk_rows : Option Coming → Exit → List (KeyCount Talk Passed)
 talk_rows None to = []
 talk_rows (Some c) to = row_of (talk_of c to) (one_frame c.octets c.moment) ∷ []
 
 -- the same where it is decided
-abbrev pub answer_rows : Option Coming → Answer → List (Row Talk Passed)
+abbrev pub answer_rows : Option Coming → Answer → List (KeyCount Talk Passed)
 answer_rows coming (Decided decision) = talk_rows coming (exit_of decision)
 answer_rows coming (Replied fault) = []
 
 -- ---- what was counted
 
--- rows with more of them
-abbrev pub rows_told : Rows Talk Passed → List (Row Talk Passed) → Rows Talk Passed
-rows_told table rows = counted_all rank passed_with nothing table rows
+-- how many frames passed
+abbrev pub frames_of : Passed → ℕ
+frames_of p = p.frames
+
+-- what a table keeps of frames, each of which is counted alone
+abbrev pub KeepsOf : List (KeyCount Talk Passed) → Frequent Talk Passed → Type 0
+KeepsOf came t = Keeps rank passed_with nothing frames_of came t
+
+-- with more frames it keeps that of these and all before
+abbrev pub Takes : Frequent Talk Passed → List (KeyCount Talk Passed) → Frequent Talk Passed → Type 0
+Takes old more new = (came : List (KeyCount Talk Passed)) → KeepsOf came old → KeepsOf (came ++ more) new
 
 -- what was counted, and the frame that the event seen last brings
 pub record Talkers : Type 0 where
-  pub rows : Rows Talk Passed
+  pub rows : Frequent Talk Passed
   pub coming : Option Coming
 
 -- nobody talked
 abbrev pub no_talkers : Talkers
-no_talkers = record { rows = no_rows nothing; coming = None }
+no_talkers = record { rows = nothing_yet nothing; coming = None }
 
 -- an event comes
 abbrev pub expecting : Talkers → Settings → ℕ → Happening → Talkers
 expecting t S moment happening = record { rows = t.rows; coming = coming_of S moment happening }
 
 -- an answer is told
-abbrev pub answer_told : Talkers → Answer → Talkers
-answer_told t a = record { rows = rows_told t.rows (answer_rows t.coming a); coming = t.coming }
+pub record IsTold (old : Talkers) (a : Answer) (new : Talkers) : Type 0 where
+  pub rows : Takes old.rows (answer_rows old.coming a) new.rows
+  pub coming : new.coming ≡ old.coming
 
 -- ---- steps
 
@@ -121,7 +131,7 @@ Expects old d new = new ≡ expecting old d.state.bridges.settings d.event.momen
 
 -- an event more came and was answered; one that isn't told counts for nothing
 abbrev pub SeesReply : Talkers → Due → Option Answer → Talkers → Type 0
-SeesReply old d (Some a) new = new ≡ answer_told (expecting old d.state.bridges.settings d.event.moment d.event.happening) a
+SeesReply old d (Some a) new = IsTold (expecting old d.state.bridges.settings d.event.moment d.event.happening) a new
 SeesReply old d None new = new ≡ old
 
 -- the same of what was seen

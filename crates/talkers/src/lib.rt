@@ -6,14 +6,14 @@
 //!
 //! Specs to read, in order: `specs/Run`, `specs/Talkers`, `specs/Lines`.
 //!
-//! Proved: behind a run of any events, or of a part of it, the table shows what those events and the answers of their segments'
-//! bridges come to (`laws::runs`), and the text is exactly the lines of these. Whoever else looks on sees what it would alone.
+//! Proved: behind a run of any events, or of a part of it, the table keeps of the frames of those events and the answers of
+//! their segments' bridges the talks of most frames (`laws::runs`), no two in one row (`laws::have_rows_of_their_own`), and the
+//! text is exactly the lines of these. Whoever else looks on sees what it would alone.
 //!
 //! Proved besides:
-//! - Behind a run of any events, or of a part of it, the table shows what those events and the answers of their
-//!   segments' bridges come to: of each segment, source, place, destination and place where the bridge sent them the
-//!   frames, their octets, and the moments of the first and the last; and what all others come to where there are more
-//!   than 4,096: `laws::runs`.
+//! - A row counts of a segment, source, place, destination and place where the bridge sent them the frames, their octets, and
+//!   the moments of the first and the last, and tells how many frames may have come before. Rows and what all others come to
+//!   are all frames; while no more than 4,096 talks come, each has its row and counts all: `laws::runs`.
 //! - The text is exactly the lines of these, the largest of each segment first: `Talkers::text`.
 //!
 //! Why it is so: a dropped frame's addresses stand in no decision, so what comes is kept from the sight of an event to its

@@ -1,21 +1,16 @@
 //! The lines of who talks to whom.
 ghost use Rattle.std.specs.Prelude.{◌≡◌, ◌++◌, OnOk, string_bytes};
 ghost use Rattle.std.specs.List.{flat_map};
-ghost use Rattle.talkers.specs.Lines.{exit_text, others_line, passed_text, talk_line, talk_text};
+ghost use Rattle.talkers.specs.Lines.{exit_text, others_line, passed_text, short_text, talk_line, talk_text};
 
-use crate::rows::{Exit, Passed, Talk};
+use crate::rows::{Exit, Passed, Talk, TalkRow};
 use change_story::words::put_mac;
 use endpoint_core::put_place;
-use ranked_rows::Row;
 use std::alloc::AllocError;
 use std::fmt::Write;
 
 /// Puts the lines of these rows, and of what all others come to.
-pub fn put_talks(
-    text: &mut String,
-    rows: &[Row<Talk, Passed>],
-    others: Passed,
-) -> Result<(), AllocError>
+pub fn put_talks(text: &mut String, rows: &[TalkRow], others: Passed) -> Result<(), AllocError>
     ensures { OnOk result (string_bytes text.new ≡ string_bytes text.old ++ flat_map talk_line rows.now ++ others_line others) }
 {
     put_rows(text, rows)?;
@@ -23,7 +18,7 @@ pub fn put_talks(
 }
 
 /// Puts the lines of rows.
-fn put_rows(text: &mut String, rows: &[Row<Talk, Passed>]) -> Result<(), AllocError>
+fn put_rows(text: &mut String, rows: &[TalkRow]) -> Result<(), AllocError>
     ensures { OnOk result (string_bytes text.new ≡ string_bytes text.old ++ flat_map talk_line rows.now) }
 {
     for row in rows {
@@ -34,12 +29,14 @@ fn put_rows(text: &mut String, rows: &[Row<Talk, Passed>]) -> Result<(), AllocEr
 
 /// Puts the line of a row.
 #[tactic(auto, unfolding(crate::specs::Lines::talk_line))]
-fn put_row(text: &mut String, row: &Row<Talk, Passed>) -> Result<(), AllocError>
+fn put_row(text: &mut String, row: &TalkRow) -> Result<(), AllocError>
     ensures { OnOk result (string_bytes text.new ≡ string_bytes text.old ++ talk_line row.now) }
 {
     text.push_str("talk ")?;
     put_talk(text, &row.key)?;
-    put_passed(text, row.counts)
+    put_passed(text, row.counts.counts)?;
+    put_short(text, row.counts.before)?;
+    text.push('\n')
 }
 
 /// Puts who sent to whom.
@@ -69,6 +66,17 @@ fn put_exit(text: &mut String, to: Exit) -> Result<(), AllocError>
     }
 }
 
+/// Puts how many frames a talk may have had before, where any.
+#[tactic(auto, unfolding(crate::specs::Lines::short_text))]
+fn put_short(text: &mut String, before: u64) -> Result<(), AllocError>
+    ensures { OnOk result (string_bytes text.new ≡ string_bytes text.old ++ short_text before) }
+{
+    if before == 0 {
+        return Ok(());
+    }
+    write!(text, " short {before}")
+}
+
 /// Puts what passed of all other talks.
 #[tactic(auto, unfolding(crate::specs::Lines::others_line))]
 fn put_others(text: &mut String, others: Passed) -> Result<(), AllocError>
@@ -78,10 +86,11 @@ fn put_others(text: &mut String, others: Passed) -> Result<(), AllocError>
         return Ok(());
     }
     text.push_str("talk others")?;
-    put_passed(text, others)
+    put_passed(text, others)?;
+    text.push('\n')
 }
 
-/// Puts how many frames and octets passed, from when to when, and the end of the line.
+/// Puts how many frames and octets passed, and from when to when.
 fn put_passed(text: &mut String, passed: Passed) -> Result<(), AllocError>
     ensures { OnOk result (string_bytes text.new ≡ string_bytes text.old ++ passed_text passed) }
 {
@@ -91,5 +100,5 @@ fn put_passed(text: &mut String, passed: Passed) -> Result<(), AllocError>
         first,
         last,
     } = passed;
-    writeln!(text, " {frames} {octets} first {first} last {last}")
+    write!(text, " {frames} {octets} first {first} last {last}")
 }

@@ -5,14 +5,14 @@ ghost use Rattle.endpoint_core.specs.Kept.{state_of};
 ghost use Rattle.endpoint_core.specs.Step.{Decided};
 ghost use Rattle.stream_run.specs.Sights.{IsBrought};
 ghost use Rattle.talkers.specs.Lines.{talks_text};
-ghost use Rattle.talkers.specs.Talkers.{answer_told, exit_of, exit_to, expecting, no_talkers, rows_told, talk_rows};
+ghost use Rattle.talkers.specs.Talkers.{IsTold, Takes, exit_of, exit_to, expecting, no_talkers, talk_rows};
 
 use crate::coming::{Coming, keep_coming};
 use crate::lines::put_talks;
 use crate::rows::{Exit, Passed, Talk, largest_first};
 use endpoint_core::{ChangeFault, Endpoint, Forwarding};
 use filter_db::Place;
-use ranked_rows::RankedRows;
+use ranked_rows::FrequentRows;
 use std::alloc::{AllocError, Global};
 use std::marker::Model;
 use stream_run::Watch;
@@ -22,7 +22,7 @@ use timeline::Event;
 /// [`Talkers::text`] take memory; the table takes 0.5 MiB.
 #[derive(Drop)]
 pub struct Talkers {
-    rows: RankedRows<Talk, Passed>,
+    rows: FrequentRows<Talk, Passed>,
     /// The frame that the event seen last brings to a segment.
     coming: Option<Coming>,
 }
@@ -41,7 +41,7 @@ impl Talkers {
         ensures { IfOk result (λ talkers. talkers ≡ no_talkers) }
     {
         Ok(Talkers {
-            rows: RankedRows::open(alloc)?,
+            rows: FrequentRows::open(alloc)?,
             coming: None,
         })
     }
@@ -99,8 +99,8 @@ impl Talkers {
 
     /// Counts the frame that is kept, where it goes.
     fn count_decision(&mut self, endpoint: &Endpoint, forwarding: &Forwarding, places: &[Place])
-        ensures { self.new ≡ answer_told self.old
-            (Decided (decision_of (state_of endpoint.now).bridges.settings forwarding.now places.now)) }
+        ensures { IsTold self.old
+            (Decided (decision_of (state_of endpoint.now).bridges.settings forwarding.now places.now)) self.new }
     {
         let to = exit_of(endpoint, forwarding, places);
         count(&mut self.rows, self.coming, to);
@@ -108,11 +108,12 @@ impl Talkers {
 }
 
 /// Counts a frame, where there is one.
-fn count(rows: &mut RankedRows<Talk, Passed>, coming: Option<Coming>, to: Exit)
-    ensures { rows.new ≡ rows_told rows.old (talk_rows coming to) }
+fn count(rows: &mut FrequentRows<Talk, Passed>, coming: Option<Coming>, to: Exit)
+    ensures { Takes rows.old (talk_rows coming to) rows.new }
 {
-    if let Some(coming) = coming {
-        rows.add(coming.talk(to), coming.passed());
+    match coming {
+        Some(coming) => rows.add(coming.talk(to), coming.passed()),
+        None => (),
     }
 }
 

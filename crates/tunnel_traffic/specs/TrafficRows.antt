@@ -5,7 +5,7 @@
 -- What such tables are is stated of any keys and counts; here it is read with tunnels and traffic.
 use Rattle.std.specs.Prelude.{ℕ, List}
 use Rattle.ranked_rows.specs.Rows as ranked
-use Rattle.ranked_rows.specs.declared.row.Row.{Row}
+use Rattle.ranked_rows.specs.declared.key_count.KeyCount.{KeyCount}
 use Rattle.tunnel_traffic.specs.Key.{rank}
 use Rattle.tunnel_traffic.specs.Traffic.{no_traffic, traffic_with}
 use Rattle.tunnel_traffic.specs.declared.rows.key.TunnelKey.{TunnelKey}
@@ -16,7 +16,7 @@ pub use Rattle.ranked_rows.specs.Rows.{row_of}
 
 -- a key and its traffic
 abbrev pub TrafficRow : Type 0
-TrafficRow = Row TunnelKey Traffic
+TrafficRow = KeyCount TunnelKey Traffic
 
 -- with the traffic of many rows, one after another
 abbrev pub all_traffic : List TrafficRow → List TrafficRow → List TrafficRow

@@ -16,11 +16,11 @@ mod key;
 mod traffic;
 
 pub use key::TunnelKey;
-use ranked_rows::{RankedRows, Row};
+use ranked_rows::{KeyCount, RankedRows};
 pub use traffic::Traffic;
 
 /// What came and left by one tunnel.
-pub type TrafficRow = Row<TunnelKey, Traffic>;
+pub type TrafficRow = KeyCount<TunnelKey, Traffic>;
 
 /// The traffic of tunnels: rows in the order of their ranks, at most 4,096, and what all other tunnels come to.
 pub type TrafficRows = RankedRows<TunnelKey, Traffic>;

@@ -2,7 +2,7 @@
 ghost use Rattle.std.specs.Prelude.{◌≡◌};
 ghost use Rattle.talkers.specs.Passed.{one_frame};
 
-use ranked_rows::Counts;
+use ranked_rows::{Counts, Frequency};
 
 /// The frames of a talk. Each count ends at 2^64 - 1.
 #[derive(Clone, Copy, Debug)]
@@ -63,4 +63,19 @@ impl Counts for Passed {
     ghost whole = { with_whole };
 
     ghost nothing = { nothing_is };
+}
+
+impl Frequency for Passed {
+    ghost use Rattle.talkers.specs.Sums.{frames_summed, no_frames};
+    ghost use Rattle.talkers.specs.Talkers.{frames_of};
+
+    ghost times = { frames_of };
+
+    fn times(&self) -> u64 {
+        self.frames
+    }
+
+    ghost summed = { frames_summed };
+
+    ghost never = { no_frames };
 }

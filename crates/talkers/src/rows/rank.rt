@@ -1,5 +1,6 @@
 //! The ranks of talks.
 ghost use Rattle.std.specs.Prelude.{◌≡◌, ◌<◌, ◌≤◌, ◌+◌, ◌*◌, ◌^◌};
+ghost use Rattle.std.specs.List.{All};
 ghost use Rattle.wire.specs.Octets.{field};
 ghost use Rattle.talkers.specs.Talk.{address_number, exit_kind, exit_number, family_number};
 ghost use Rattle.talkers.specs.Talk.{pair_number, place_kind, rank, place_number, places_number, tunnel_kind};
@@ -48,6 +49,32 @@ impl Talk {
         self.places_are_few();
         let _ = mac_number(self.source);
         let _ = mac_number(self.destination);
+    }
+
+    /// That another of the same number has its segment, source and destination. It does nothing.
+    #[tactic(auto, unfolding(crate::specs::Talk::pair_number))]
+    pub(crate) fn has_addresses_alone(&self, other: &Talk)
+        ensures vid { pair_number self.now ≡ pair_number other.now → self.now.vid ≡ other.now.vid }
+        ensures source { pair_number self.now ≡ pair_number other.now → self.now.source ≡ other.now.source }
+        ensures destination { pair_number self.now ≡ pair_number other.now → self.now.destination ≡ other.now.destination }
+    {
+        let _ = (mac_number(other.source), mac_number(self.source));
+        let _ = (mac_number(other.destination), mac_number(self.destination));
+        has_number_alone(self.source, other.source);
+        has_number_alone(self.destination, other.destination);
+    }
+
+    /// That another of the same number comes from its place and goes where it goes. It does nothing.
+    #[tactic(auto, unfolding(crate::specs::Talk::places_number))]
+    pub(crate) fn has_places_alone(&self, other: &Talk)
+        ensures from { places_number self.now ≡ places_number other.now → self.now.from ≡ other.now.from }
+        ensures to { places_number self.now ≡ places_number other.now → self.now.to ≡ other.now.to }
+    {
+        let _ = (exit_kind(self.to), exit_kind(other.to));
+        let _ = (place_number(self.from), place_number(other.from));
+        let _ = (exit_number(self.to), exit_number(other.to));
+        is_place_alone(self.from, other.from);
+        is_exit_alone(self.to, other.to);
     }
 
     /// Its places as one number, in three parts of which the lower two have 128 bits.
@@ -142,5 +169,57 @@ fn exit_number(to: Exit) -> u128
     match to {
         Exit::To(place) => place_number(place),
         Exit::Flood | Exit::Drop => 0,
+    }
+}
+
+/// That another of its number is it. It does nothing.
+fn has_number_alone(mac: Mac, other: Mac)
+    ensures { field 0 6 mac ≡ field 0 6 other → mac ≡ other }
+{
+    octets_fit(&mac.0);
+    octets_fit(&other.0);
+}
+
+/// That each octet is below 256, which a clause cannot say of an array. It does nothing.
+fn octets_fit(octets: &[u8])
+    ensures { All (λ octet. octet < 256) octets.now }
+{
+    for i in 0..octets.len() {
+        let _ = octets[i];
+    }
+}
+
+/// That another of its kind and number is it. It does nothing.
+fn is_place_alone(place: Place, other: Place)
+    ensures { place_kind place ≡ place_kind other → place_number place ≡ place_number other → place ≡ other }
+{
+    if let (Place::Remote(_, address), Place::Remote(_, another)) = (place, other) {
+        is_address_alone(address, another);
+    }
+}
+
+/// That another of its family and number is it. It does nothing.
+fn is_address_alone(address: Addr, other: Addr)
+    ensures { family_number address ≡ family_number other → address_number address ≡ address_number other → address ≡ other }
+{
+    match (&address, &other) {
+        (Addr::V4(octets), Addr::V4(others)) => {
+            octets_fit(octets);
+            octets_fit(others);
+        }
+        (Addr::V6(octets), Addr::V6(others)) => {
+            octets_fit(octets);
+            octets_fit(others);
+        }
+        (Addr::V4(_), Addr::V6(_)) | (Addr::V6(_), Addr::V4(_)) => (),
+    }
+}
+
+/// That another of its kind and number is it. It does nothing.
+fn is_exit_alone(to: Exit, other: Exit)
+    ensures { exit_kind to ≡ exit_kind other → exit_number to ≡ exit_number other → to ≡ other }
+{
+    if let (Exit::To(place), Exit::To(another)) = (to, other) {
+        is_place_alone(place, another);
     }
 }

@@ -1,7 +1,7 @@
 use Rattle.std.proofs.Common.{◌∙◌, ap, sym, subst, drop, get_or, length, take, List, arith}
 use Rattle.std.proofs.lemmas.List.{length-set}
 use Rattle.ranked_rows.specs.Rows.{IsNumbering, row_of, rows_by, total}
-use Rattle.ranked_rows.specs.declared.row.Row.{Row}
+use Rattle.ranked_rows.specs.declared.key_count.KeyCount.{KeyCount}
 use Rattle.ranked_rows.proofs.Numbering.{length_by, more_rest, more_shown, numbers_set}
 use Rattle.ranked_rows.proofs.Places.{entered}
 use Rattle.ranked_rows.proofs.numbers.put.Goals as goal
@@ -27,7 +27,7 @@ returns-in-Ok-clause-rest g c =
 pub returns-in-Ok-clause-numbers : goal.returns-in-Ok-clause-numbers
 returns-in-Ok-clause-numbers g c =
     let d = row_of c.args.key c.args.counts in
-    subst (λ (l : List (Row g.row.K.Denot g.row.C.Denot)). IsNumbering l c.args.order.now.items) (sym (c.more_of.ensures.rows d)) (numbers_set c.args.rows.now.items c.args.order.now.items c.in-Ok.number _ c.requires.numbers)
+    subst (λ (l : List (KeyCount g.row.K.Denot g.row.C.Denot)). IsNumbering l c.args.order.now.items) (sym (c.more_of.ensures.rows d)) (numbers_set c.args.rows.now.items c.args.order.now.items c.in-Ok.number _ c.requires.numbers)
 
 pub returns-in-Ok-clause-few : goal.returns-in-Ok-clause-few
 returns-in-Ok-clause-few g c =
@@ -44,4 +44,4 @@ pub returns-in-Err-clause-rest : goal.returns-in-Err-clause-rest
 returns-in-Err-clause-rest g c =
     let place = rw c.as_slice.ensures.value at (rw c.as_slice-2.ensures.value at c.in-Err.ensures.place) in
     let behind = rw c.as_slice.ensures.value at (rw c.as_slice-2.ensures.value at c.in-Err.ensures.behind) in
-    c.enter.ensures.rest ∙ ap (λ (l : List (Row g.row.K.Denot g.row.C.Denot)). total g.C.Counts.joined g.C.Counts.none (drop 4096 l)) (sym (entered g.K.Ranked.rank g.C.Counts.joined c.args.key c.args.counts (rows_by c.args.rows.now.items c.args.order.now.items) c.in-Err.at place.inside place.before behind))
+    c.enter.ensures.rest ∙ ap (λ (l : List (KeyCount g.row.K.Denot g.row.C.Denot)). total g.C.Counts.joined g.C.Counts.none (drop 4096 l)) (sym (entered g.K.Ranked.rank g.C.Counts.joined c.args.key c.args.counts (rows_by c.args.rows.now.items c.args.order.now.items) c.in-Err.at place.inside place.before behind))

@@ -56,7 +56,7 @@ else
     echo "tests/parts/machines.sh: GNU parallel wasn't tried: it isn't here"
 fi
 if [ "$(id -u)" -eq 0 ] && command -v sbatch >/dev/null && command -v slurmctld >/dev/null && command -v munged >/dev/null; then
-    tries slurm bash "$top/tests/lib/slurm.sh" "$folder/daemons" bash -c "$(recipe 'parts=')"
+    tries slurm bash "$top/tests/lib/slurm.bash" "$folder/daemons" bash -c "$(recipe 'parts=')"
 else
     echo "tests/parts/machines.sh: Slurm wasn't tried: it isn't here, or this isn't root"
 fi

@@ -7,12 +7,12 @@ use timeline::Tap;
 
 /// Texts of records: of one port and of two, with changes and without, of 16 ports, and of captures that hold both directions.
 const RECORDS: [&str; 6] = [
-    "tep shard 2/segments 10,20-29,none/settings A/changes E/capture p1 A/capture u E/events 1234/output decisions 1 2 3 4/\
+    "tep shard 4/segments 10,20-29,none/settings A/changes E/capture p1 A/capture u E/events 1234/output decisions 1 2 3 4/\
     output u 0 24 5 6/output p1 1 24 0 18446744073709551615/",
-    "tep shard 2/segments all/settings E/capture p1 A/capture p2 E/capture u A/events 0/output decisions 1 2 3 4/\
+    "tep shard 4/segments all/settings E/capture p1 A/capture p2 E/capture u A/events 0/output decisions 1 2 3 4/\
     output u 0 24 5 6/output p1 1 24 0 18446744073709551615/output p2 2 24 0 18446744073709551615/",
-    "tep shard 2/segments 4094/settings E/capture u A/events 18446744073709551615/output decisions 1 2 3 4/output u 0 24 5 6/",
-    "tep shard 2/segments none/settings A/capture p1 A/capture p2 A/capture p3 A/capture p4 A/capture p5 A/capture p6 A/\
+    "tep shard 4/segments 4094/settings E/capture u A/events 18446744073709551615/output decisions 1 2 3 4/output u 0 24 5 6/",
+    "tep shard 4/segments none/settings A/capture p1 A/capture p2 A/capture p3 A/capture p4 A/capture p5 A/capture p6 A/\
     capture p7 A/capture p8 A/capture p9 A/capture p10 A/capture p11 A/capture p12 A/capture p13 A/capture p14 A/capture p15 A/\
     capture p16 E/capture u E/events 7/output decisions 1 2 3 4/output u 0 24 5 6/output p1 1 24 0 18446744073709551615/\
     output p2 2 24 0 18446744073709551615/output p3 3 24 0 18446744073709551615/output p4 4 24 0 18446744073709551615/\
@@ -20,16 +20,16 @@ const RECORDS: [&str; 6] = [
     output p8 8 24 0 18446744073709551615/output p9 9 24 0 18446744073709551615/output p10 10 24 0 18446744073709551615/\
     output p11 11 24 0 18446744073709551615/output p12 12 24 0 18446744073709551615/output p13 13 24 0 18446744073709551615/\
     output p14 14 24 0 18446744073709551615/output p15 15 24 0 18446744073709551615/output p16 16 24 0 18446744073709551615/",
-    "tep shard 3/segments 1-9/settings A/changes E/capture p1 A/capture u E/both 10000000/events 12/output decisions 1 2 3 4/\
+    "tep shard 5/segments 1-9/settings A/changes E/capture p1 A/capture u E/both 10000000/events 12/output decisions 1 2 3 4/\
     output u 0 24 5 6/output p1 1 24 0 18446744073709551615/",
-    "tep shard 3/segments none/settings A/capture u E/both 18446744073709551615/events 0/output decisions 1 2 3 4/output u 0 24 5 6/",
+    "tep shard 5/segments none/settings A/capture u E/both 18446744073709551615/events 0/output decisions 1 2 3 4/output u 0 24 5 6/",
 ];
 
 /// Whether a text is written again as it was read.
 fn is_written_again(alloc: Global, short: &str) -> Result<bool, Fail> {
     let text = text_in_full(alloc, short)?;
     match record_of(text.as_str()) {
-        Ok((part, outputs)) => Ok(
+        Ok((part, outputs, _)) => Ok(
             text_of(alloc, &part, outputs.as_slice())?.as_slice() == text.as_bytes(),
         ),
         Err(_) => Ok(false),
@@ -47,7 +47,7 @@ fn writes_what_it_reads(rt: HostRuntime) -> Result<(), Fail> {
 /// The record of a part with so many ports.
 fn record_with_ports(alloc: Global, ports: u16) -> Result<String, Fail> {
     let mut short = String::new(alloc);
-    short.push_str("tep shard 2/segments none/settings A/")?;
+    short.push_str("tep shard 4/segments none/settings A/")?;
     put_lines(&mut short, ports, "capture p", " A/")?;
     short.push_str("capture u E/events 7/output decisions 1 2 3 4/output u 0 24 5 6/")?;
     put_lines(
@@ -77,7 +77,7 @@ fn refuses_a_record_of_256_ports(rt: HostRuntime) -> Result<(), Fail> {
 #[test]
 fn reads_each_fact(rt: HostRuntime) -> Result<(), Fail> {
     let text = text_in_full(rt.alloc(), RECORDS[0])?;
-    let Ok((part, outputs)) = record_of(text.as_str()) else {
+    let Ok((part, outputs, _)) = record_of(text.as_str()) else {
         return Err(Fail::from("a record"));
     };
     assert!(rt; part.segments == "10,20-29,none");
@@ -99,7 +99,7 @@ fn reads_each_fact(rt: HostRuntime) -> Result<(), Fail> {
 fn reads_how_long_behind_its_frame_what_was_sent_may_come(rt: HostRuntime) -> Result<(), Fail> {
     let text = text_in_full(rt.alloc(), RECORDS[4])?;
     let told = match record_of(text.as_str()) {
-        Ok((part, _)) => part.both,
+        Ok((part, _, _)) => part.both,
         Err(_) => None,
     };
     assert!(rt; told == Some(10_000_000));
@@ -110,93 +110,93 @@ fn reads_how_long_behind_its_frame_what_was_sent_may_come(rt: HostRuntime) -> Re
 const FAULTS: [(&str, PartRecordFault); 35] = [
     ("", PartRecordFault::Head),
     (
-        "tep shard 4/segments 1/settings A/capture u E/events 1/",
+        "tep shard 6/segments 1/settings A/capture u E/events 1/",
         PartRecordFault::Head,
     ),
     (
-        "tep shard 3/segments 1/settings A/capture u E/events 1/",
+        "tep shard 5/segments 1/settings A/capture u E/events 1/",
         PartRecordFault::Both,
     ),
     (
-        "tep shard 3/segments 1/settings A/capture u E/both 01/events 1/",
+        "tep shard 5/segments 1/settings A/capture u E/both 01/events 1/",
         PartRecordFault::Both,
     ),
     (
-        "tep shard 3/segments 1/settings A/capture u E/both 18446744073709551616/events 1/",
+        "tep shard 5/segments 1/settings A/capture u E/both 18446744073709551616/events 1/",
         PartRecordFault::Both,
     ),
     (
-        "tep shard 3/segments 1/settings A/both 1/capture u E/events 1/",
+        "tep shard 5/segments 1/settings A/both 1/capture u E/events 1/",
         PartRecordFault::Capture,
     ),
     (
-        "tep shard 2/segments 1/settings A/capture u E/both 1/events 1/",
+        "tep shard 4/segments 1/settings A/capture u E/both 1/events 1/",
         PartRecordFault::Events,
     ),
     (
-        "tep shard 3/segments 1/settings A/capture u E/both 1/both 1/events 1/",
+        "tep shard 5/segments 1/settings A/capture u E/both 1/both 1/events 1/",
         PartRecordFault::Events,
     ),
     (
-        "tep shard 3/segments 1/settings A/capture u E/both 1/",
+        "tep shard 5/segments 1/settings A/capture u E/both 1/",
         PartRecordFault::Events,
     ),
-    ("tep shard 2", PartRecordFault::Head),
+    ("tep shard 4", PartRecordFault::Head),
     (
-        "tep shard 2/settings A/segments 1/capture u E/events 1/",
+        "tep shard 4/settings A/segments 1/capture u E/events 1/",
         PartRecordFault::Segments,
     ),
-    ("tep shard 2/segments 1", PartRecordFault::Segments),
+    ("tep shard 4/segments 1", PartRecordFault::Segments),
     (
-        "tep shard 2/segments 1/capture u E/events 1/",
+        "tep shard 4/segments 1/capture u E/events 1/",
         PartRecordFault::Settings,
     ),
     (
-        "tep shard 2/segments 1/settings A0/capture u E/events 1/",
+        "tep shard 4/segments 1/settings A0/capture u E/events 1/",
         PartRecordFault::Settings,
     ),
     (
-        "tep shard 2/segments 1/settings BA7816BF8F01CFEb414140DE5DbE2223B00361b396177b9CB410FF61F20015bD/capture u E/events 1/",
+        "tep shard 4/segments 1/settings BA7816BF8F01CFEb414140DE5DbE2223B00361b396177b9CB410FF61F20015bD/capture u E/events 1/",
         PartRecordFault::Settings,
     ),
     (
-        "tep shard 2/segments 1/settings A/changes none/capture u E/events 1/",
+        "tep shard 4/segments 1/settings A/changes none/capture u E/events 1/",
         PartRecordFault::Changes,
     ),
     (
-        "tep shard 2/segments 1/settings A/changes A/changes A/capture u E/events 1/",
+        "tep shard 4/segments 1/settings A/changes A/changes A/capture u E/events 1/",
         PartRecordFault::Changes,
     ),
     (
-        "tep shard 2/segments 1/settings A/capture p1 A/changes A/capture u E/events 1/",
+        "tep shard 4/segments 1/settings A/capture p1 A/changes A/capture u E/events 1/",
         PartRecordFault::Changes,
     ),
     (
-        "tep shard 2/segments 1/settings A/capture p2 A/capture u E/events 1/",
+        "tep shard 4/segments 1/settings A/capture p2 A/capture u E/events 1/",
         PartRecordFault::Capture,
     ),
     (
-        "tep shard 2/segments 1/settings A/capture p1 A/events 1/",
+        "tep shard 4/segments 1/settings A/capture p1 A/events 1/",
         PartRecordFault::Capture,
     ),
     (
-        "tep shard 2/segments 1/settings A/capture p1 A/capture p1 A/capture u E/events 1/",
+        "tep shard 4/segments 1/settings A/capture p1 A/capture p1 A/capture u E/events 1/",
         PartRecordFault::Capture,
     ),
     (
-        "tep shard 2/segments 1/settings A/capture u E/",
+        "tep shard 4/segments 1/settings A/capture u E/",
         PartRecordFault::Events,
     ),
     (
-        "tep shard 2/segments 1/settings A/capture u E/events 1",
+        "tep shard 4/segments 1/settings A/capture u E/events 1",
         PartRecordFault::Events,
     ),
     (
-        "tep shard 2/segments 1/settings A/capture u E/events 01/",
+        "tep shard 4/segments 1/settings A/capture u E/events 01/",
         PartRecordFault::Events,
     ),
     (
-        "tep shard 2/segments 1/settings A/capture u E/events 18446744073709551616/",
+        "tep shard 4/segments 1/settings A/capture u E/events 18446744073709551616/",
         PartRecordFault::Events,
     ),
     (
@@ -204,40 +204,40 @@ const FAULTS: [(&str, PartRecordFault); 35] = [
         PartRecordFault::Older,
     ),
     (
-        "tep shard 2/segments 1/settings A/capture u E/events 1/",
+        "tep shard 4/segments 1/settings A/capture u E/events 1/",
         PartRecordFault::Output,
     ),
     (
-        "tep shard 2/segments 1/settings A/capture u E/events 1/output u 0 24 5 6/output decisions 1 2 3 4/",
+        "tep shard 4/segments 1/settings A/capture u E/events 1/output u 0 24 5 6/output decisions 1 2 3 4/",
         PartRecordFault::Output,
     ),
     (
-        "tep shard 2/segments 1/settings A/capture u E/events 1/output decisions 1 2 3/output u 0 24 5 6/",
+        "tep shard 4/segments 1/settings A/capture u E/events 1/output decisions 1 2 3/output u 0 24 5 6/",
         PartRecordFault::Output,
     ),
     (
-        "tep shard 2/segments 1/settings A/capture u E/events 1/output decisions 1 2 3 4 5/output u 0 24 5 6/",
+        "tep shard 4/segments 1/settings A/capture u E/events 1/output decisions 1 2 3 4 5/output u 0 24 5 6/",
         PartRecordFault::Output,
     ),
     (
-        "tep shard 2/segments 1/settings A/capture u E/events 1/output decisions 1 2 03 4/output u 0 24 5 6/",
+        "tep shard 4/segments 1/settings A/capture u E/events 1/output decisions 1 2 03 4/output u 0 24 5 6/",
         PartRecordFault::Output,
     ),
     (
-        "tep shard 2/segments 1/settings A/capture p1 A/capture u E/events 1/output decisions 1 2 3 4/output u 0 24 5 6/",
+        "tep shard 4/segments 1/settings A/capture p1 A/capture u E/events 1/output decisions 1 2 3 4/output u 0 24 5 6/",
         PartRecordFault::Output,
     ),
     (
-        "tep shard 2/segments 1/settings A/capture p1 A/capture u E/events 1/output decisions 1 2 3 4/output u 0 24 5 6/\
+        "tep shard 4/segments 1/settings A/capture p1 A/capture u E/events 1/output decisions 1 2 3 4/output u 0 24 5 6/\
         output p2 0 24 5 6/",
         PartRecordFault::Output,
     ),
     (
-        "tep shard 2/segments 1/settings A/capture u E/events 1/output decisions 1 2 3 4/output u 0 24 5 6/output p1 0 24 5 6/",
+        "tep shard 4/segments 1/settings A/capture u E/events 1/output decisions 1 2 3 4/output u 0 24 5 6/output p1 0 24 5 6/",
         PartRecordFault::Behind,
     ),
     (
-        "tep shard 2/segments 1/settings A/capture u E/events 1/output decisions 1 2 3 4/output u 0 24 5 6//",
+        "tep shard 4/segments 1/settings A/capture u E/events 1/output decisions 1 2 3 4/output u 0 24 5 6//",
         PartRecordFault::Behind,
     ),
 ];
@@ -259,86 +259,86 @@ fn tells_where_a_text_is_no_records(rt: HostRuntime) -> Result<(), Fail> {
 /// Two texts of records, and what is first different in them.
 const PAIRS: [(&str, &str, Option<Difference>); 12] = [
     (
-        "tep shard 2/segments 1/settings A/changes E/capture p1 A/capture u E/events 1/output decisions 1 2 3 4/output u 0 24 5 6/\
+        "tep shard 4/segments 1/settings A/changes E/capture p1 A/capture u E/events 1/output decisions 1 2 3 4/output u 0 24 5 6/\
         output p1 0 24 5 6/",
-        "tep shard 2/segments none/settings A/changes E/capture p1 A/capture u E/events 1/output decisions 1 2 3 4/\
+        "tep shard 4/segments none/settings A/changes E/capture p1 A/capture u E/events 1/output decisions 1 2 3 4/\
         output u 0 24 5 6/output p1 0 24 5 6/",
         None,
     ),
     (
-        "tep shard 2/segments 1/settings A/changes E/capture p1 A/capture u E/events 1/output decisions 1 2 3 4/output u 0 24 5 6/\
+        "tep shard 4/segments 1/settings A/changes E/capture p1 A/capture u E/events 1/output decisions 1 2 3 4/output u 0 24 5 6/\
         output p1 0 24 5 6/",
-        "tep shard 2/segments 1/settings E/changes A/capture p1 E/capture u A/events 2/output decisions 1 2 3 4/output u 0 24 5 6/\
+        "tep shard 4/segments 1/settings E/changes A/capture p1 E/capture u A/events 2/output decisions 1 2 3 4/output u 0 24 5 6/\
         output p1 0 24 5 6/",
         Some(Difference::Settings),
     ),
     (
-        "tep shard 2/segments 1/settings A/changes E/capture p1 A/capture u E/events 1/output decisions 1 2 3 4/output u 0 24 5 6/\
+        "tep shard 4/segments 1/settings A/changes E/capture p1 A/capture u E/events 1/output decisions 1 2 3 4/output u 0 24 5 6/\
         output p1 0 24 5 6/",
-        "tep shard 2/segments 1/settings A/changes A/capture p1 E/capture u A/events 2/output decisions 1 2 3 4/output u 0 24 5 6/\
-        output p1 0 24 5 6/",
-        Some(Difference::Changes),
-    ),
-    (
-        "tep shard 2/segments 1/settings A/changes E/capture p1 A/capture u E/events 1/output decisions 1 2 3 4/output u 0 24 5 6/\
-        output p1 0 24 5 6/",
-        "tep shard 2/segments 1/settings A/capture p1 A/capture u E/events 1/output decisions 1 2 3 4/output u 0 24 5 6/\
+        "tep shard 4/segments 1/settings A/changes A/capture p1 E/capture u A/events 2/output decisions 1 2 3 4/output u 0 24 5 6/\
         output p1 0 24 5 6/",
         Some(Difference::Changes),
     ),
     (
-        "tep shard 2/segments 1/settings A/capture p1 A/capture p2 A/capture u E/events 1/output decisions 1 2 3 4/\
+        "tep shard 4/segments 1/settings A/changes E/capture p1 A/capture u E/events 1/output decisions 1 2 3 4/output u 0 24 5 6/\
+        output p1 0 24 5 6/",
+        "tep shard 4/segments 1/settings A/capture p1 A/capture u E/events 1/output decisions 1 2 3 4/output u 0 24 5 6/\
+        output p1 0 24 5 6/",
+        Some(Difference::Changes),
+    ),
+    (
+        "tep shard 4/segments 1/settings A/capture p1 A/capture p2 A/capture u E/events 1/output decisions 1 2 3 4/\
         output u 0 24 5 6/output p1 0 24 5 6/output p2 0 24 5 6/",
-        "tep shard 2/segments 1/settings A/capture p1 A/capture p2 E/capture u A/events 1/output decisions 1 2 3 4/\
+        "tep shard 4/segments 1/settings A/capture p1 A/capture p2 E/capture u A/events 1/output decisions 1 2 3 4/\
         output u 0 24 5 6/output p1 0 24 5 6/output p2 0 24 5 6/",
         Some(Difference::Capture(Tap::Port(2))),
     ),
     (
-        "tep shard 2/segments 1/settings A/capture p1 A/capture u E/events 1/output decisions 1 2 3 4/output u 0 24 5 6/\
+        "tep shard 4/segments 1/settings A/capture p1 A/capture u E/events 1/output decisions 1 2 3 4/output u 0 24 5 6/\
         output p1 0 24 5 6/",
-        "tep shard 2/segments 1/settings A/capture p1 A/capture p2 E/capture u E/events 1/output decisions 1 2 3 4/\
+        "tep shard 4/segments 1/settings A/capture p1 A/capture p2 E/capture u E/events 1/output decisions 1 2 3 4/\
         output u 0 24 5 6/output p1 0 24 5 6/output p2 0 24 5 6/",
         Some(Difference::Capture(Tap::Port(2))),
     ),
     (
-        "tep shard 2/segments 1/settings A/capture p1 A/capture u E/events 1/output decisions 1 2 3 4/output u 0 24 5 6/\
+        "tep shard 4/segments 1/settings A/capture p1 A/capture u E/events 1/output decisions 1 2 3 4/output u 0 24 5 6/\
         output p1 0 24 5 6/",
-        "tep shard 2/segments 1/settings A/capture p1 A/capture u A/events 2/output decisions 1 2 3 4/output u 0 24 5 6/\
+        "tep shard 4/segments 1/settings A/capture p1 A/capture u A/events 2/output decisions 1 2 3 4/output u 0 24 5 6/\
         output p1 0 24 5 6/",
         Some(Difference::Capture(Tap::Underlay)),
     ),
     (
-        "tep shard 3/segments 1/settings A/capture p1 A/capture u E/both 10000000/events 1/output decisions 1 2 3 4/\
+        "tep shard 5/segments 1/settings A/capture p1 A/capture u E/both 10000000/events 1/output decisions 1 2 3 4/\
         output u 0 24 5 6/output p1 0 24 5 6/",
-        "tep shard 3/segments 2/settings A/capture p1 A/capture u E/both 10000000/events 2/output decisions 1 2 3 4/\
+        "tep shard 5/segments 2/settings A/capture p1 A/capture u E/both 10000000/events 2/output decisions 1 2 3 4/\
         output u 0 24 5 6/output p1 0 24 5 6/",
         None,
     ),
     (
-        "tep shard 3/segments 1/settings A/capture p1 A/capture u E/both 10000000/events 1/output decisions 1 2 3 4/\
+        "tep shard 5/segments 1/settings A/capture p1 A/capture u E/both 10000000/events 1/output decisions 1 2 3 4/\
         output u 0 24 5 6/output p1 0 24 5 6/",
-        "tep shard 2/segments 2/settings A/capture p1 A/capture u E/events 2/output decisions 1 2 3 4/output u 0 24 5 6/\
+        "tep shard 4/segments 2/settings A/capture p1 A/capture u E/events 2/output decisions 1 2 3 4/output u 0 24 5 6/\
         output p1 0 24 5 6/",
         Some(Difference::Both),
     ),
     (
-        "tep shard 3/segments 1/settings A/capture p1 A/capture u E/both 10000000/events 1/output decisions 1 2 3 4/\
+        "tep shard 5/segments 1/settings A/capture p1 A/capture u E/both 10000000/events 1/output decisions 1 2 3 4/\
         output u 0 24 5 6/output p1 0 24 5 6/",
-        "tep shard 3/segments 2/settings A/capture p1 A/capture u E/both 2000000/events 2/output decisions 1 2 3 4/\
+        "tep shard 5/segments 2/settings A/capture p1 A/capture u E/both 2000000/events 2/output decisions 1 2 3 4/\
         output u 0 24 5 6/output p1 0 24 5 6/",
         Some(Difference::Both),
     ),
     (
-        "tep shard 3/segments 1/settings A/capture p1 A/capture u E/both 10000000/events 1/output decisions 1 2 3 4/\
+        "tep shard 5/segments 1/settings A/capture p1 A/capture u E/both 10000000/events 1/output decisions 1 2 3 4/\
         output u 0 24 5 6/output p1 0 24 5 6/",
-        "tep shard 3/segments 2/settings A/capture p1 A/capture u A/both 2000000/events 2/output decisions 1 2 3 4/\
+        "tep shard 5/segments 2/settings A/capture p1 A/capture u A/both 2000000/events 2/output decisions 1 2 3 4/\
         output u 0 24 5 6/output p1 0 24 5 6/",
         Some(Difference::Capture(Tap::Underlay)),
     ),
     (
-        "tep shard 2/segments 1/settings A/capture p1 A/capture u E/events 1/output decisions 1 2 3 4/output u 0 24 5 6/\
+        "tep shard 4/segments 1/settings A/capture p1 A/capture u E/events 1/output decisions 1 2 3 4/output u 0 24 5 6/\
         output p1 0 24 5 6/",
-        "tep shard 2/segments 1/settings A/capture p1 A/capture u E/events 2/output decisions 7 8 9 10/output u 11 12 13 14/\
+        "tep shard 4/segments 1/settings A/capture p1 A/capture u E/events 2/output decisions 7 8 9 10/output u 11 12 13 14/\
         output p1 15 16 17 18/",
         None,
     ),
@@ -353,7 +353,7 @@ fn differ_in(
 ) -> Result<bool, Fail> {
     let a = text_in_full(alloc, a)?;
     let b = text_in_full(alloc, b)?;
-    let (Ok((one, _)), Ok((other, _))) = (record_of(a.as_str()), record_of(b.as_str())) else {
+    let (Ok((one, _, _)), Ok((other, _, _))) = (record_of(a.as_str()), record_of(b.as_str())) else {
         return Ok(false);
     };
     Ok(same_run(&one, &other).err() == difference && same_run(&other, &one).err() == difference)

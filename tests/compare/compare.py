@@ -71,6 +71,19 @@ def behind_line(sent, both):
     return [f"behind another {count}"] if count else []
 
 
+def doubled_line(received, both):
+    """The line of how many of those that were received alone are the same as one of the latest 256 in front that are both, where one
+    is."""
+    matched = {number for _, number in both}
+    latest, count = collections.deque(maxlen=256), 0
+    for number, (_, content) in enumerate(received):
+        if number in matched:
+            latest.append(content)
+        else:
+            count += content in latest
+    return [f"doubled {count}"] if count else []
+
+
 def alone(side, records, both):
     """The lines of those that are not both, and how many of each length there are."""
     lines, lengths = [], collections.Counter()
@@ -94,16 +107,16 @@ def end_lines(ends, fault):
 
 
 def report(sent, received, within, shift):
-    """What is printed: the lines of those that were sent alone, of those that were received alone, the counts with how many are
-    cut and are behind another, and the table by length."""
+    """What is printed: the lines of those that were sent alone, of those that were received alone, the counts with how many came
+    again, are cut and are behind another, and the table by length."""
     found = pairs(sent, received, within, shift)
     of_sent, of_received = ({pair[side] for pair in found} for side in (0, 1))
     both = len(found)
     sent_lines, sent_lengths = alone("sent", sent, of_sent)
     received_lines, received_lengths = alone("received", received, of_received)
     counts = [f"sent {len(sent)}", f"received {len(received)}", f"both {both}"]
-    counts += [f"sent alone {len(sent) - both}", f"received alone {len(received) - both}"] + cut_line(sent, received)
-    counts += behind_line(sent, found)
+    counts += [f"sent alone {len(sent) - both}", f"received alone {len(received) - both}"] + doubled_line(received, found)
+    counts += cut_line(sent, received) + behind_line(sent, found)
     lengths = collections.Counter(len(parts_of(sent[number][1])[0]) for number in of_sent)
     table = [
         f"length {n}: both {lengths[n]}, sent alone {sent_lengths[n]}, received alone {received_lengths[n]}"
@@ -117,7 +130,7 @@ def in_parts(printed):
     lines = printed.splitlines()
     start = next((at for at, line in enumerate(lines) if line.startswith("sent ") and " alone " not in line), len(lines))
     sides = [[line for line in lines[:start] if f" {side} alone " in line] for side in ("sent", "received")]
-    behind = start + 5 + sum(line.startswith(("cut: ", "behind another ")) for line in lines)
+    behind = start + 5 + sum(line.startswith(("doubled ", "cut: ", "behind another ")) for line in lines)
     return *sides, lines[start:behind], lines[behind:]
 
 

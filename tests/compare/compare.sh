@@ -66,6 +66,24 @@ received alone 1
 behind another 2
 what was received isn't what was sent" "$folder/order_sent.pcap" "$folder/order_received.pcap"
 
+# What was received again is told: one twice, and one once, but not one that wasn't sent, or that is cut otherwise, or that came before
+# the 256 latest that are both.
+PYTHONPATH=tests/compare python3 -Bc '
+import sys
+from compare import write
+others = [(2, bytes([k])) for k in range(255)]
+write(f"{sys.argv[1]}/twice_sent.pcap", [(1, b"aa"), (1, (b"bb", 3))] + others + [(3, b"cc")])
+again = [(2, b"aa"), (2, b"aa"), (2, (b"bb", 4)), (2, b"xx"), (2, b"xx")]
+write(f"{sys.argv[1]}/twice_received.pcap", [(2, b"aa"), (2, (b"bb", 3))] + again + others + [(3, b"aa"), (3, (b"bb", 3)), (3, b"cc"), (3, (b"bb", 3))])' "$folder"
+wants 1 "sent 258
+received 266
+both 258
+sent alone 0
+received alone 8
+doubled 3
+cut: sent 1, received 4
+what was received isn't what was sent" "$folder/twice_sent.pcap" "$folder/twice_received.pcap"
+
 capture=examples/underlay.pcap
 same=$(./tep compare "$capture" "$capture")
 [ "$?" = 0 ] || complain "a capture isn't the same as itself"
@@ -146,5 +164,6 @@ received left aside 2" --ignore reserved "$folder/own/port1.pcap" "$seen/sent_po
 wants 2 "error: --ignore takes the word 'reserved'" --ignore Reserved "$capture" "$capture"
 wants 2 "error: --ignore takes the word 'reserved'" --ignore reserved,reserved "$capture" "$capture"
 # The segment and the event of each such record, and what of a near one differs.
-python3 tests/compare/compare_near.py ./tep "$folder" || complain "a record of one capture alone is told otherwise"
+python3 -B tests/compare/compare_near.py ./tep "$folder" || complain "a record of one capture alone is told otherwise"
+python3 -B tests/compare/compare_differing.py ./tep "$folder" || complain "what differs is counted otherwise"
 exit $status

@@ -10,7 +10,9 @@ import struct
 import subprocess
 import sys
 
-from compare import SECOND, behind_line, cut_line, cut_to, drawn_end, drawn_snaps, end_lines, pairs, parts_of, rising, up_to_fault, write
+from compare import SECOND, behind_line, cut_line, cut_to, doubled_line, drawn_end, drawn_snaps, end_lines, pairs, parts_of, rising
+from compare import up_to_fault, write
+from differing import difference_lines
 from made_segments import GENEVE, VXLAN, drawn_settings, frame_segment, number, packet_segment, segment_lines, settings_text
 
 DIFFERS = "what was received isn't what was sent"
@@ -241,6 +243,18 @@ def drawn_frame(chance):
     return octets[:12] + struct.pack(">HH", kind, tci) + octets[12:]
 
 
+def seen_frame(chance, octets):
+    """What is captured of a frame at a port."""
+    drawn = chance.random()
+    if drawn < 0.08:
+        return with_changed_octet(chance, octets)
+    if drawn < 0.14:
+        return octets[:12] + struct.pack(">HH", 0x8100, chance.choice([10, 20, 0x6014])) + octets[chance.choice([12, 16]) :]
+    if drawn < 0.17:
+        return octets[:12] + octets[16:]
+    return octets + bytes(4) if drawn < 0.2 else octets[:-1] if drawn < 0.23 else octets
+
+
 def place_of(chance, is_underlay, within, shift):
     """What was worked out at a place, and what was captured there."""
     packets = [drawn_packet(chance) for _ in range(chance.choice([1, 2, 6]))]
@@ -253,10 +267,7 @@ def place_of(chance, is_underlay, within, shift):
         octets = as_sent(chance, packets[which]) if is_underlay else frames[which]
         worked.append((moment, octets))
         for _ in range(chance.choice([0, 1, 1, 1, 1, 1, 1, 2])):
-            if is_underlay:
-                left = seen_packet(chance, packets[which], octets)
-            else:
-                left = with_changed_octet(chance, octets) if chance.random() < 0.08 else octets
+            left = seen_packet(chance, packets[which], octets) if is_underlay else seen_frame(chance, octets)
             delay = chance.choice([0, 0, 1, within, within + 1, chance.randrange(2 * within + 1)])
             seen.append((max(0, moment + delay + (shift or 0)), left))
     if chance.random() < 0.8:
@@ -269,8 +280,9 @@ def as_it_stands(content):
     return content
 
 
-def place_told(word, worked, seen, key, clock, ends, segment_of=None, counts=None):
-    """The lines of a place, its counts, and its fault. Each record is counted with its segment, too, where that is asked for."""
+def place_told(word, worked, seen, key, clock, ends, segment_of=None, counts=None, differs=True):
+    """The lines of a place, its counts, and its fault. Each record is counted with its segment, too, where that is asked for; what of
+    near ones differs isn't told of two captures that stand for themselves."""
     worked, seen, fault = up_to_fault(worked, seen, *clock, ends)
     keyed = [[(moment, key(octets)) for moment, octets in rising(records)] for records in (worked, seen)]
     found = pairs(*keyed, *clock)
@@ -282,7 +294,9 @@ def place_told(word, worked, seen, key, clock, ends, segment_of=None, counts=Non
             row[2] += side == 0 and at in are_both
     one, other, both = len(worked), len(seen), len(are_both)
     line = f"{word}: sent {one}, received {other}, both {both}, sent alone {one - both}, received alone {other - both}\n"
-    behind = [f"{word}: {line}\n" for line in cut_line(worked, seen) + behind_line(worked, found) + end_lines(ends, fault)]
+    behind = [f"{word}: {line}\n" for line in doubled_line(keyed[1], found) + cut_line(worked, seen) + behind_line(worked, found)]
+    behind += difference_lines(word, *keyed, found, clock, key is carried) if differs else ""
+    behind += [f"{word}: {line}\n" for line in end_lines(ends, fault)]
     return line + "".join(behind), (one, other, both), fault
 
 
@@ -355,7 +369,7 @@ class Case:
 
     def plain_told(self):
         """The same of the underlay's two captures alone, octet for octet."""
-        told, (one, other, both), fault = place_told("u", *self.places[-1], as_it_stands, self.clock, self.ends[-1])
+        told, (one, other, both), fault = place_told("u", *self.places[-1], as_it_stands, self.clock, self.ends[-1], differs=False)
         text = f"sent {one}\nreceived {other}\nboth {both}\nsent alone {one - both}\nreceived alone {other - both}\n"
         text += "".join(line.removeprefix("u: ") for line in told.splitlines(keepends=True)[1:])
         said = fault or (None if one == other == both else DIFFERS)
@@ -392,4 +406,5 @@ def main():
     sys.exit(1 if wrong else 0)
 
 
-main()
+if __name__ == "__main__":
+    main()

@@ -1,8 +1,9 @@
 #!/usr/bin/env python3
 """`tep compare --worked .. --list`: a folder as a run leaves it, and captures of what went out, made here octet by octet, and what
-each line tells besides: segment, event, and what of a near one differs, as worked out by hand. Usage: compare_near.py TEP FOLDER;
-prints what differs, and exits 1 where something does."""
+each line tells besides: segment, event, and what of a near one differs, as worked out by hand, and the line that counts it. Usage:
+compare_near.py TEP FOLDER; prints what differs, and exits 1 where something does."""
 import os
+import re
 import struct
 import subprocess
 import sys
@@ -124,6 +125,12 @@ LINES = [
 ]
 
 
+def counted(lines):
+    """What differs, counted: in each of these rows of one pair, whose second is the first record that was received."""
+    ways = [re.match(r"\d+ (\S+) sent .* record (\d+) (.*) event \d+ (.*)", line) for line in lines]
+    return [f"{way[1]}: {way[3]}: {way[4]}: 1, first record 1 for {way[2]}" for way in ways if way]
+
+
 def main():
     tep, folder = sys.argv[1:]
     worked, seen = os.path.join(folder, "near"), os.path.join(folder, "near.pcap")
@@ -137,10 +144,12 @@ def main():
     def is_told(what, lines, fault, *words):
         nonlocal failed
         done = subprocess.run([tep, "compare", "--list", "--within", "100ns", "--worked", worked, *words], capture_output=True, text=True)
-        printed = sorted((line for line in done.stdout.split("\n") if " alone length " in line), key=lambda line: int(line.split()[0]))
+        told = done.stdout.splitlines()
+        printed = sorted((line for line in told if " alone length " in line), key=lambda line: int(line.split()[0]))
+        printed += [line for line in told if ", first record " in line]
         complaint = done.stderr.split("\n")[0]
         wanted = f"{worked}: {fault}" if fault else "what was received isn't what was sent"
-        if (done.returncode, printed, complaint) != (1, lines, wanted):
+        if (done.returncode, printed, complaint) != (1, lines + counted(lines), wanted):
             print(f"compare_near.py: {what}: status {done.returncode}\n{done.stdout}{done.stderr}")
             failed = True
 
@@ -165,4 +174,5 @@ def main():
     return failed
 
 
-sys.exit(main())
+if __name__ == "__main__":
+    sys.exit(main())

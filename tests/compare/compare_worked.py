@@ -106,6 +106,20 @@ FOR_GN = [
     ("the bit O", frame(ip4(udp(6081, geneve(10, OPTION, INNER, flags=0x80)))), False),
 ]
 
+# What of these differs where it is told that both packets are near: by the tunnel, and strictly by the frame. That over IPv6 is one
+# that comes again.
+DIFFER_VX = {
+    "IPv6": "u: doubled 1\n",
+    "another VNI": "u: vxlan 10: vni 11 for 10: 1, first record 1 for 1\n",
+    "another destination": "u: vxlan 10: remote 192.0.2.3 for 192.0.2.2: 1, first record 1 for 1\n",
+}
+DIFFER_STRICTLY = {
+    "IPv6": "u: doubled 1\n",
+    "a tag": "u: untagged: tag 5 for none: 1, first record 1 for 1\n",
+    "Ethernet's padding": "u: untagged: length 114 for 110: 1, first record 1 for 1\n",
+}
+DIFFER_GN = {"another VNI": "u: geneve 10: vni 11 for 10: 1, first record 3 for 3\n"}
+
 
 def cut(octets, missing):
     """A record of which so many octets more weren't captured."""
@@ -128,11 +142,11 @@ def line(word, sent, received, both):
     return f"{word}: sent {sent}, received {received}, both {both}, {alone}\n"
 
 
-def told(p1, p2, u, segments=()):
-    """What is printed of these three places, each with its counts, or None without a capture, and of segments, each with its
-    counts."""
+def told(p1, p2, u, segments=(), differences=""):
+    """What is printed of these three places, each with its counts, or None without a capture, of what differs at the last one, and of
+    segments, each with its counts."""
     places = [("p1", p1), ("p2", p2), ("u", u)]
-    text = "".join(line(word, *counts) if counts else f"{word}: no capture\n" for word, counts in places)
+    text = "".join(line(word, *counts) if counts else f"{word}: no capture\n" for word, counts in places) + differences
     text += "".join(line(word, *counts) for word, counts in segments)
     return text + line("all", *(sum(counts[i] for _, counts in places if counts) for i in range(3)))
 
@@ -156,23 +170,24 @@ def main():
     differs = "what was received isn't what was sent\n"
     seen = os.path.join(folder, "seen.pcap")
 
-    def underlay_is(what, records, counts, moment=MOMENT, words=(), segments=()):
+    def underlay_is(what, records, counts, moment=MOMENT, words=(), segments=(), differences=""):
         same = counts[0] == counts[1] == counts[2]
-        text = told((2, 2, 2), (1, 1, 1), counts, segments) + ("" if same else differs)
+        text = told((2, 2, 2), (1, 1, 1), counts, segments, differences) + ("" if same else differs)
         write(seen, records, moment)
         wants(what, 0 if same else 1, text, *words, "--worked", worked, "-u", seen, *ports)
 
     underlay_is("the same", UNDERLAY, (4, 4, 4))
     underlay_is("in another order", UNDERLAY[::-1], (4, 4, 4))
     underlay_is("one lost", UNDERLAY[1:], (4, 3, 3))
-    underlay_is("one doubled", UNDERLAY + [VX], (4, 5, 4))
+    underlay_is("one doubled", UNDERLAY + [VX], (4, 5, 4), differences="u: doubled 1\n")
     underlay_is("an octet of no tunnel's packet", UNDERLAY[:3] + [ARP[:-1] + b"\1"], (4, 4, 3))
     underlay_is("a second later", UNDERLAY, (4, 4, 4), MOMENT + 1)
     underlay_is("two seconds later", UNDERLAY, (4, 4, 0), MOMENT + 2)
     for what, packet, same in FOR_VX:
-        underlay_is(what, [packet] + UNDERLAY[1:], (4, 4, 4 if same else 3))
+        underlay_is(what, [packet] + UNDERLAY[1:], (4, 4, 4 if same else 3), differences=DIFFER_VX.get(what, ""))
     for what, packet, same in FOR_GN:
-        underlay_is("Geneve: " + what, [VX, VX6, packet, ARP], (4, 4, 4 if same else 3))
+        differences = DIFFER_GN.get(what, "")
+        underlay_is("Geneve: " + what, [VX, VX6, packet, ARP], (4, 4, 4 if same else 3), differences=differences)
     limit = frame(ip6(udp(4789, vxlan(10, INNER)), limit=1))
     underlay_is("another hop limit", [VX, limit, GN, ARP], (4, 4, 4))
 
@@ -221,7 +236,8 @@ def main():
     # Strictly all octets count at the underlay, too.
     underlay_is("the same, strictly", UNDERLAY, (4, 4, 4), words=("--strict",))
     for what, packet, _ in FOR_VX:
-        underlay_is(f"{what}, strictly", [packet] + UNDERLAY[1:], (4, 4, 3), words=("--strict",))
+        differences = DIFFER_STRICTLY.get(what, "")
+        underlay_is(f"{what}, strictly", [packet] + UNDERLAY[1:], (4, 4, 3), words=("--strict",), differences=differences)
     folderless = "error: --settings and --strict go with --worked DIR\n"
     wants("strictly without a run", 2, folderless, "--strict", *ports)
 

@@ -318,12 +318,14 @@ def pipes(folder):
     ends(folder, run_of("whole"))
     out = fresh(folder)
     names = ["port1.pcap", "port2.pcap", "port3.pcap", "underlay.pcap", "decisions.txt"]
-    readers = {}
+    readers, waits = {}, []
     for name in names:
         os.mkfifo(out / name)
         readers[name] = []
-        taken(out / name, readers[name])
+        waits.append(taken(out / name, readers[name]))
     status, _, said = ends(folder, run_of("out"))
+    for reader in waits:
+        reader.join(LIMIT)
     asks(status == 0 and all(readers[name] == [(whole / name).read_bytes()] for name in names), f"outputs by FIFOs: {status}, {said}")
 
 

@@ -93,6 +93,26 @@ told compared compare "$folder/cut.pcap" "$folder/cut.pcap"
 told compared compare --worked "$folder/plain" -u - "$folder/cut.pcap" - -
 grep -qx '{"line":"ends cut","place":"p1","side":"received"}' "$folder/objects" || complain "a cut capture isn't told with its place"
 
+# What of near records differs, of tags, of none and of tunnels, and of more segments than have a line.
+mkdir "$folder/differs"
+PYTHONPATH=tests/compare python3 -Bc '
+import sys
+from compare_near import at_port, tag, vxlan, write
+folder = sys.argv[1]
+open(f"{folder}/decisions.txt", "w").close()
+frames = [at_port()] + [at_port(tag(vid)) for vid in range(1, 1026)]
+write(f"{folder}/port1.pcap", [(5 + k, frame) for k, frame in enumerate(frames)])
+write(f"{folder}/seen1.pcap", [(6, at_port(tag(4094)))] + [(5000 + k, at_port(tag(4094))) for k in range(1025)])
+write(f"{folder}/underlay.pcap", [(5, vxlan(5000)), (5, vxlan(6000))])
+write(f"{folder}/seen.pcap", [(6, vxlan(5000, destination=3)), (6, vxlan(6000)), (6, vxlan(6000))])' "$folder/differs"
+told compared compare --worked "$folder/differs" -u "$folder/differs/seen.pcap" "$folder/differs/seen1.pcap"
+grep -qx '{"count":1,"difference":"tag","line":"difference","place":"p1","received":"4094","received_record":1,"sent":"none","sent_record":1,"where":"untagged"}' \
+    "$folder/objects" || complain "a difference of a tag isn't told"
+grep -qx '{"count":1,"difference":"remote","line":"difference","place":"u","received":"192.0.2.3","received_record":1,"sent":"192.0.2.2","sent_record":1,"vni":5000,"where":"vxlan"}' \
+    "$folder/objects" || complain "a difference of a remote isn't told"
+grep -qx '{"count":1,"line":"doubled","place":"u"}' "$folder/objects" || complain "a record that came again isn't told"
+grep -qx '{"count":2,"line":"other differences","place":"p1"}' "$folder/objects" || complain "other differences aren't told"
+
 # Names with quotes, backslashes and line feeds stay texts.
 cp "$folder/wrong.toml" "$folder/a\"b\\c
 d.toml"

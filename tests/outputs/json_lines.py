@@ -56,7 +56,8 @@ def count(told):
     span = f"{told['count']} {told['octets']} first {told['first']} last {told['last']}"
     if "source" not in told:
         return f"talk others {span}"
-    return f"talk {told['segment']} {told['source']} {told['from']} > {told['destination']} {told['to']} {span}"
+    short = f" short {told['short']}" if "short" in told else ""
+    return f"talk {told['segment']} {told['source']} {told['from']} > {told['destination']} {told['to']} {span}{short}"
 
 
 def entry(told):
@@ -121,6 +122,12 @@ def comparison(told):
     if kind == "length":
         counts = f"both {told['both']}, sent alone {told['sent_alone']}, received alone {told['received_alone']}"
         return f"{at}length {told['length']}: {counts}"
+    if kind == "difference":
+        where = " ".join(str(told[key]) for key in ("where", "vid", "vni") if key in told)
+        what = f"{told['difference']} {told['received']} for {told['sent']}"
+        return f"{at}{where}: {what}: {told['count']}, first record {told['received_record']} for {told['sent_record']}"
+    if kind == "other differences":
+        return f"{at}{kind}: {told['count']}"
     if kind == "delay":
         return f"{at}delay {told['delay']} {told['nanoseconds']}"
     if "moment" not in told:

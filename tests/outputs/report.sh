@@ -64,6 +64,30 @@ cp "$folder/every/decisions.txt" "$folder/few"
 ./tep report -o "$folder/page.html" "$folder/few" || complain "a folder with decision lines alone has no page"
 grep -q -- '--talkers' "$folder/page.html" || complain "it isn't told which word tells who talks"
 
+# A folder of a part of a run says so, and no other.
+mkdir "$folder/part"
+cp "$folder/every/decisions.txt" "$folder/part"
+touch "$folder/part/shard.txt"
+./tep report -o "$folder/page.html" "$folder/part" || complain "the folder of a part has no page"
+grep -q 'This folder is of a part of a run' "$folder/page.html" || complain "a part isn't told to be one"
+grep -q 'This folder is of a part of a run' "$folder/every.html" && complain "a whole run is told to be a part"
+
+# Where nothing is dropped that is said. A hundred of one reason don't hide another's first, and stand in front of it.
+mkdir "$folder/clean" "$folder/hidden"
+printf '1 1000 p1 1 10 p2=60\n' >"$folder/clean/decisions.txt"
+./tep report -o "$folder/page.html" "$folder/clean" || complain "a run without a drop has no page"
+grep -q '<p>Nothing was dropped.</p>' "$folder/page.html" || complain "it isn't told that nothing was dropped"
+{
+    printf '1 1 p1 1 10 drop 10 NoSegment\n'
+    for number in {2..120}; do
+        printf '%d %d u %d - drop 12 NotIp\n' "$number" "$number" "$((number - 1))"
+    done
+    printf '121 121 p2 1 10 drop 37 Unreachable\n'
+} >"$folder/hidden/decisions.txt"
+./tep report -o "$folder/page.html" "$folder/hidden" || complain "a run with 121 drops has no page"
+[ "$(sed -n 's/.*--why \([a-z0-9:]*\)<.*/\1/p' "$folder/page.html")" = "$(printf 'u:1\np1:1\np2:1')" ] ||
+    complain "the first drops aren't those of each reason, the most frequent first"
+
 # What is kept may hold anything: it stands as text. So does the folder's name.
 hostile="$folder/<script>alert(1)<%2Fscript>&\"'"
 mkdir "$hostile"

@@ -4,6 +4,7 @@
 The page is HTML whose elements are closed, it has no script and names nothing elsewhere, each picture has a title, and its numbers
 are those of the text that `tep run --summary --tables --talkers` printed (SUMMARY) and of the decision lines. What is wrong is
 told, and the status is 1."""
+import html
 import re
 import sys
 from collections import Counter
@@ -113,6 +114,21 @@ def cells_of_entry(words):
     return words[1:5] + ([words[5], words[7]] if words[4] == "seen" else ["", ""])
 
 
+def in_short(text, top, decisions):
+    """What stands in front: the three reasons that were met most, and which captures are cut."""
+    rows = re.findall(r"<li><strong>(\d+) (\w+): (\d+)</strong><br>(.*)</li>\n", text)
+    told = [(number, name, int(count), html.unescape(sentence)) for number, name, count, sentence in rows]
+    same("reasons in short", told, top)
+    same("nothing was dropped", "<p>Nothing was dropped.</p>" in text, not top)
+    told = re.findall(r"<p>The capture of <code>(\w+)</code> is cut: it ends within a record, behind (\d+) whole ones.</p>", text)
+    same("cut captures", sorted(told), sorted((w[1], w[2]) for w in decisions if w[0] == "cut"))
+    events = [w for w in decisions if w[0] != "cut"]
+    came = sum(1 for w in events if w[2] != "c")
+    drops = sum(1 for w in events if w[5] == "drop")
+    share = drops * 1000 // came if came else 0
+    same("share", f"<dd>{drops}<small>{share // 10}.{share % 10} % of {came} that came</small></dd>" in text, True)
+
+
 def sentences():
     """What docs/REASONS.md says of each reason, by its number: when it holds, and what to look at."""
     told = {}
@@ -169,10 +185,26 @@ def main():
     for w in lines:
         if w[0] == "segment" and w[2] == "sent":
             same(f"sent in {w[1]}", told[w[1]][1], w[3])
-    first = [w for w in decisions if len(w) > 5 and w[5] == "drop"][:100]
-    wanted = [[w[0], w[1], f"{w[2]}:{w[3]}", "none" if w[4] == "-" else w[4], f"{w[6]} {w[7]}"] for w in first]
+    numbers = {name: number for (_, number, name) in dropped}
+    met, first = Counter(), {}
+    for w in decisions:
+        if w[0] == "cut":
+            continue
+        mine = [w[6]] if w[5] == "drop" else [numbers[word.split("!")[1]] for word in w[5:] if "!" in word]
+        for number in mine:
+            met[number] += 1
+            first.setdefault(number, w)
+    order = sorted(met, key=lambda number: (-met[number], int(number)))
+    names = {number: name for name, number in numbers.items()}
+    rows = [[*w[:2], f"{w[2]}:{w[3]}", "none" if w[4] == "-" else w[4]] for w in (first[number] for number in order)]
+    wanted = [row + [f"{number} {names[number]}"] for row, number in zip(rows, order)]
     same("first drops", [row[:1] + row[2:6] for row in page.rows_of("first")], wanted)
-    same("commands", [row[6] for row in page.rows_of("first")], [f"tep run .. --why {w[2]}:{w[3]}" for w in first])
+    same("commands", [row[6] for row in page.rows_of("first")], [f"tep run .. --why {row[2]}" for row in rows])
+    told = [row[0].split() + row[1:2] for row in page.rows_of("drops", "Reasons over time")]
+    same("reasons", told, [[number, names[number], str(met[number])] for number in order])
+    by_segment = [(order.index(number), -int(count)) for _, number, _, count, _ in page.rows_of("drops")]
+    same("drops in order", by_segment, sorted(by_segment))
+    in_short(text, [(number, names[number], met[number], reasons[number]) for number in order[:3]], decisions)
     talks = [w for w in lines if w[0] == "talk" and w[1] != "others"]
     of_segment, places = {}, {}
     for w in talks:

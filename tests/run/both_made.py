@@ -117,7 +117,7 @@ def tried(seed, kept=None):
     wrong += differing("decision line", lines, numbered(plain[3], model.inputs, model.counts))
     wrong += differing("summary", stdout, counted(plain[1], model.counts))
     wrong += [f"{name} leaves otherwise" for name in sorted({*left, *plain[4]}) if left.get(name) != plain[4].get(name)]
-    told = [line for line in checked.splitlines() if "elsewhere" in line or line.startswith("both:")]
+    told = [line for line in checked.splitlines() if "elsewhere" in line or "left us" in line or line.startswith("both:")]
     wrong += differing("check", told, ten.check_lines())
     if merged:
         wrong += differing("parts", list(merged), [0, stdout if summed else "", [stderr, stderr, []], lines, left])

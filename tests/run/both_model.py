@@ -232,7 +232,7 @@ class Model:
         lines = []
         for tap, count in self.counts.items():
             if 0 < self.left_out(tap) and self.left_out(tap) * 10 >= count:
-                what = "packets left us or" if tap == "u" else "records"
-                lines.append(f"{tap}: {self.left_out(tap)} of {count} {what} came in elsewhere within 10 ms before: does this "
-                             "capture have what left, too? run --both, or tcpdump -Q in")
+                what = "packets left us" if tap == "u" else "records came in elsewhere within 10 ms before"
+                lines.append(f"{tap}: {self.left_out(tap)} of {count} {what}: does this capture have what left, too? "
+                             "run --both, or tcpdump -Q in")
         return lines + self.forgotten_line("10ms")

@@ -229,14 +229,18 @@ class Made:
                 self.changes.append({"at": (later if which else moment) // self.grain * self.grain} | change)
 
     def crowd(self, start, is_large):
-        """More frames within the time than there is room for, of which some are met again then at port 2, and none at port 3;
-        and frames that take no room: those of a segment without ports, and one that is too long."""
+        """More frames within the time than there is room for, of which some are met again at each port as they come, so that
+        nothing is forgotten with them, and some at port 2 behind all; and frames that take no room: those of a segment without
+        ports, and one that is too long."""
         chance, (segment, other) = self.chance, self.ground.segments[:2]
         count, length = (chance.choice([65, 80]), 65000) if is_large else (chance.choice([4096, 4097, 4150]), 46)
         step = max(self.within // (2 * count), 1)
         frames = [b"\xff" * 6 + STATIONS[0] + b"\x88\xb5" + struct.pack(">I", at) + bytes(length) for at in range(count)]
         for at, frame in enumerate(frames):
             self.put("p1", start + at * step, frame)
+        for at in chance.sample(range(60), 20):
+            for port in sorted({*segment.members} - {1}):
+                self.put(f"p{port}", start + at * step, self.at_port(frames[at], port, segment))
         for at in range(1, 41):
             source, target = (host(self.ground.families[0], last) for last in (2, 1))
             self.at_underlay(start + at * step, self.in_tunnel(frames[0][:-at], other, source, target))

@@ -86,13 +86,13 @@ echoes() {
     ./tep check --settings "$lab/settings.toml" --underlay "$captures/$1/$2" "$captures/$1/$3" "$captures/$1/$4" \
         >"$folder/checked" 2>&1
     got=$?
-    grep elsewhere "$folder/checked"
+    grep -e elsewhere -e "left us" "$folder/checked"
     echo "status $got"
 }
 question='does this capture have what left, too? run --both, or tcpdump -Q in'
 told="p1: 5 of 11 records came in elsewhere within 10 ms before: $question
 p2: 4 of 8 records came in elsewhere within 10 ms before: $question
-u: 7 of 10 packets left us or came in elsewhere within 10 ms before: $question
+u: 7 of 10 packets left us: $question
 status 0"
 [ "$(echoes both underlay.pcap port1.pcap port2.pcap)" = "$told" ] || complain "a check of both directions"
 [ "$(echoes both 'all.pcapng#underlay' 'all.pcapng#swp1' 'all.pcapng#swp2')" = "$told" ] ||

@@ -8,6 +8,7 @@ import struct
 import sys
 
 import runs
+import view
 
 FAULTS = []
 
@@ -226,8 +227,11 @@ def a_frame_goes_to_every_place():
         "2 2000000000 u 1 10 " + " ".join(ports + remotes),
         "3 3000000000 p1 2 10 " + " ".join(ports[1:] + [f"geneve:{remote}!InnerTagOut" for remote in REMOTES]),
     ]
-    told = runs.Run(every_place(), "", captures, words=["run", "--summary"])
+    told = runs.Run(every_place(), "", captures, words=["run", "--summary", "--pcapng", "out/view.pcapng"])
     expect_lines("a frame to every place", told.said(), wanted)
+    expect_lines("a frame to every place, in a view", "\n".join(view.View(told.files["view.pcapng"]).lines), wanted)
+    # 21 octets in front, 1,672 of 254 ports, 58 of each of 512 remotes, and 765 spaces: less than half a comment's 65,535.
+    assert max(map(len, wanted)) == 32_154
     summary = [line for line in told.stdout.splitlines() if line.startswith(("segment", "remote"))]
     counts = [f"segment 10 sent {766 + 767 + 254}", "segment 10 dropped 40 InnerTagOut 512", "remote vxlan:192.0.2.2 in 1 110 out 0 0"]
     counts += [f"remote geneve:{remote} in 0 0 out 2 260" for remote in REMOTES]

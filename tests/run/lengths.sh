@@ -6,4 +6,4 @@ cd "$(dirname "$0")/../.." || exit 1
     echo "tests/run/lengths.sh: there is no program"
     exit 1
 }
-PYTHONPATH=tests/lib exec python3 -B tests/run/lengths.py
+PYTHONPATH=tests/lib:tests/outputs exec python3 -B tests/run/lengths.py

@@ -121,7 +121,7 @@ ends 0 --version
 told stdout "words: --version
 commit: unknown
 proved: all that it stands on"
-touch "$clone/crates/wire_tests/src/lib.rt"
+touch "$clone/crates/endpoint_tests/src/lib.rt"
 ends 0
 called
 for source in crates.txt crates/tep/src/main.rt crates/wire/specs crates/endpoint_core/proofs; do

@@ -73,7 +73,8 @@ version="tep 7.8.9
 commit: $commit
 proved: all that it stands on"
 files=(bin/tep libexec/tep/tep libexec/tep/version libexec/tep/files share/man/man1/tep.1 share/zsh/site-functions/_tep
-    share/bash-completion/completions/tep share/fish/vendor_completions.d/tep.fish)
+    share/bash-completion/completions/tep share/fish/vendor_completions.d/tep.fish share/tep/wireshark/tep/preferences
+    share/tep/wireshark/tep/colorfilters share/tep/wireshark/tep/dfilter_buttons)
 
 # A plain one tells what stands where, below a folder whose name a shell has to quote.
 prefix="$folder/it's here"
@@ -86,6 +87,7 @@ man page     $prefix/share/man/man1/tep.1
 completions  $prefix/share/bash-completion/completions/tep
              $prefix/share/zsh/site-functions/_tep
              $prefix/share/fish/vendor_completions.d/tep.fish
+for Wireshark $prefix/share/tep/wireshark/tep
 documents    $prefix/share/doc/tep
 list of all  $prefix/libexec/tep/files
 $prefix/bin isn't in the path: export PATH='${prefix//\'/\'\\\'\'}/bin':\$PATH

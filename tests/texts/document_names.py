@@ -10,7 +10,7 @@ TOP = Path(__file__).resolve().parents[2]
 PAGES = ["README.md", "docs/*.md", "docs/*/*.md", "tests/*.md", "bench/README.md", "examples/*.md", "examples/*/README.md"]
 # Words that are no names of ours: of libraries, of pcapng, of Linux and of Open vSwitch.
 OTHERS = set("""std core alloc toml toml_datetime toml_parser fast_float clap serde_json sha2 byteorder itoa anyhow
-    epb_flags pack_flags if_fcslen if_name if_tsoffset if_tsresol ageing_time vlan_filtering""".split())
+    epb_flags epb_packetid opt_comment shb_userappl pack_flags if_fcslen if_name if_tsoffset if_tsresol ageing_time vlan_filtering""".split())
 
 
 def words(text):

@@ -7,6 +7,9 @@ mod Leaving
 mod Once
 mod Others
 pub mod Runts
+mod Sending
+mod Settled
 mod Turns
+mod Untagging
 mod Waiting
 mod Windows

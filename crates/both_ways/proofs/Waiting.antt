@@ -94,13 +94,13 @@ no_more (x ∷ l) (suc i) zero h = h
 no_more (x ∷ l) (suc i) (suc j) h = no_more l i j h
 
 -- it waits there no more
-never : (t a e : Bool) → (t && ((a && false) && e)) ≡ false
-never true true e = refl
-never true false e = refl
-never false a e = refl
+pub never_waits : (t a e : Bool) → (t && ((a && false) && e)) ≡ false
+never_waits true true e = refl
+never_waits true false e = refl
+never_waits false a e = refl
 
 met_waits_not : (w place : ℕ) (frame : List ℕ) (t : ℕ) (c : Arrival) → waits w place frame t (met_at place c) ≡ false
-met_waits_not w place frame t c = rw (cleared c.awaited place) (never (nat_le t (c.moment + w)) (not (nat_eq c.place place)) (is_same c.frame frame))
+met_waits_not w place frame t c = rw (cleared c.awaited place) (never_waits (nat_le t (c.moment + w)) (not (nat_eq c.place place)) (is_same c.frame frame))
 
 -- and for nothing that it didn't wait for before
 swapped : (t a v w e : Bool) → (v ≡ true → w ≡ true) → (t && ((a && v) && e)) ≡ true → (t && ((a && w) && e)) ≡ true

@@ -2,13 +2,13 @@
 use Rattle.std.proofs.Common.{◌≡◌, ◌<◌, ◌≤◌, ℕ, zero, suc, ◌+◌, ◌-◌, Bool, true, false, cond, not, nat_eq, nat_le, nat_lt, ◌&&◌, if◌then◌else◌}
 use Rattle.std.proofs.Common.{List, [], ◌∷◌, ◌++◌, length, get_or, Option, Some, None, refl, sym, ap, ◌∙◌, arith}
 use Rattle.std.specs.Prelude.{is_some, option_map}
-use Rattle.std.specs.List.{find, position, position_or_len, slice_get}
+use Rattle.std.specs.List.{find, list_all, position, position_or_len, slice_get}
 use Rattle.std.proofs.lemmas.Bool.{true≢false, leb-true, ltb-true, ltb-false}
 use Rattle.std.proofs.lemmas.List.Folds.{find_at}
 use Rattle.std.proofs.lemmas.List.Quantifiers.{position-Some}
 use Rattle.std.proofs.lemmas.Option.{slice_get_past}
-use Rattle.both_ways.proofs.Waiting.{Enough, Rise, found, how_many, how_many_put, met_echo, met_enough, no_gain, one_same, owed_less, rise_high, rise_low, waits}
-use Rattle.echo_window.specs.Echo.{Arrival, Record, after, crowded_by, crowded_out, echo_of, entered, first_met, fits, is_echo_of, met_again, newest, recent}
+use Rattle.both_ways.proofs.Waiting.{Enough, Rise, found, how_many, how_many_put, met_echo, met_enough, never_waits, no_gain, one_same, owed_less, rise_high, rise_low, waits}
+use Rattle.echo_window.specs.Echo.{Arrival, Record, after, crowded_by, crowded_out, echo_of, entered, first_met, fits, is_echo_of, is_met_everywhere, met_again, newest, recent}
 use Rattle.wire.specs.Octets.{is_same}
 
 -- no frame that didn't come in
@@ -68,14 +68,42 @@ keeps_recent w now came owed kept k = record {
   enough = λ place frame t l. omega (arith, enough_recent w place frame now t kept l, k.enough place frame t l);
 }
 
--- one came in, and none goes for want of room
-all_fit : (m : ℕ) (cs : List Arrival) → crowded_out m cs ≡ [] → newest cs ≡ cs
-all_fit m [] h = refl
-all_fit m (c ∷ cs) h = by (fits (c ∷ cs)) refl h
+-- one came in, and none goes for want of room that may be met again
+not_awaited : (places : List Bool) (place : ℕ) → list_all not places ≡ true → get_or places place false ≡ false
+not_awaited [] place h = refl
+not_awaited (true ∷ places) place h = absurd (true≢false (sym h))
+not_awaited (false ∷ places) zero h = refl
+not_awaited (false ∷ places) (suc place) h = not_awaited places place h
+
+done : (w place : ℕ) (frame : List ℕ) (t : ℕ) (c : Arrival) → is_met_everywhere c ≡ true → waits w place frame t c ≡ false
+done w place frame t c h = rw (not_awaited c.awaited place h) (never_waits (nat_le t (c.moment + w)) (not (nat_eq c.place place)) (is_same c.frame frame))
+
+none_owed : (m w place : ℕ) (frame : List ℕ) (t : ℕ) (cs : List Arrival) → crowded_out m cs ≡ [] → how_many (waits w place frame t) (newest cs) ≡ how_many (waits w place frame t) cs
+none_owed m w place frame t [] h = refl
+none_owed m w place frame t (c ∷ cs) h = by (fits (c ∷ cs)) (is_met_everywhere c) refl h (none_owed m w place frame t cs)
   where
-    by : (q : Bool) → fits (c ∷ cs) ≡ q → (if q then [] else (m - c.moment) ∷ crowded_out m cs) ≡ [] → (if q then c ∷ cs else newest cs) ≡ c ∷ cs
-    by true e none = refl
-    by false e none = absurd cc
+    by : (q r : Bool) → is_met_everywhere c ≡ r → (if q then [] else (if r then [] else (m - c.moment) ∷ []) ++ crowded_out m cs) ≡ []
+        → (crowded_out m cs ≡ [] → how_many (waits w place frame t) (newest cs) ≡ how_many (waits w place frame t) cs)
+        → how_many (waits w place frame t) (if q then c ∷ cs else newest cs) ≡ how_many (waits w place frame t) (c ∷ cs)
+    by true r e none rest = refl
+    by false true e none rest = omega (arith, rest none, one_same (done w place frame t c e))
+    by false false e none rest = absurd cc
+
+few_newest : (p : Arrival → Bool) (cs : List Arrival) → how_many p (newest cs) ≤ how_many p cs
+few_newest p [] = omega arith
+few_newest p (c ∷ cs) = by (fits (c ∷ cs)) (few_newest p cs)
+  where
+    by : (q : Bool) → how_many p (newest cs) ≤ how_many p cs → how_many p (if q then c ∷ cs else newest cs) ≤ how_many p (c ∷ cs)
+    by true rest = omega arith
+    by false rest = omega arith
+
+rise_newest : (low high : ℕ) (cs : List Arrival) → Rise low cs high → Rise low (newest cs) high
+rise_newest low high [] k = k
+rise_newest low high (c ∷ cs) k = by (fits (c ∷ cs)) (rise_low low c.moment high (newest cs) k.0 (rise_newest c.moment high cs k.1))
+  where
+    by : (q : Bool) → Rise low (newest cs) high → Rise low (if q then c ∷ cs else newest cs) high
+    by true rest = k
+    by false rest = rest
 
 rise_put : (low high : ℕ) (cs : List Arrival) (c : Arrival) → high ≤ c.moment → Rise low cs high → Rise low (cs ++ c ∷ []) c.moment
 rise_put low high [] c h k = (omega (arith, h, k), omega arith)
@@ -93,7 +121,12 @@ keeps_one_more w r came owed kept none k =
       few = λ q. put_too (is_echo_of w q) (recent w r.moment kept) came (first_met r) (here.few q);
       enough = λ place frame t l. put_too (waits w place frame t) owed (recent w r.moment kept) (first_met r) (here.enough place frame t l);
     } in
-    rw (all_fit r.moment (recent w r.moment kept ++ first_met r ∷ []) none) put
+    let all = recent w r.moment kept ++ first_met r ∷ [] in
+    record {
+      rising = rise_newest 0 r.moment all put.rising;
+      few = λ q. omega (arith, few_newest (is_echo_of w q) all, put.few q);
+      enough = λ place frame t l. omega (arith, none_owed r.moment w place frame t all none, put.enough place frame t l);
+    }
 
 -- a record at a port is no echo of any that came in
 none_found : (p : Arrival → Bool) (cs : List Arrival) → how_many p cs ≡ 0 → find p cs ≡ None

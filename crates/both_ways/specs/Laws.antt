@@ -3,7 +3,7 @@ use Rattle.std.specs.Prelude.{◌≡◌, ◌<◌, ⊤, ℕ, ◌+◌, ◌-◌, �
 use Rattle.std.specs.Prelude.{List, [], ◌∷◌, ◌++◌, filter, length, map, Option, Some, None, is_none, slice_index, slice_index_or}
 use Rattle.std.specs.List.{count_by}
 use Rattle.both_ways.specs.Sieve.{Seen, asked, behind, behind_all, coming, entering, fresh, is_taken, taken, window_asked}
-use Rattle.both_ways.specs.Told.{is_sent, place_of}
+use Rattle.both_ways.specs.Told.{is_sent, outlets, place_of}
 use Rattle.echo_window.specs.Echo.{Arrival, Record, Window, crowded_by, echo_of, first_met, is_echo_of, lesser, met_again, recent}
 use Rattle.endpoint_core.specs.Opened.{settings_told}
 use Rattle.endpoint_core.specs.Settings.{Settings}
@@ -45,6 +45,12 @@ CountsWhatIsLeftOut =
     (within : ℕ) (S : Settings) (cs : List TimedChange) (es : List Event) (place : ℕ) → place < 256
     → slice_index (behind_all (fresh within S cs) es).counts place
     ≡ min (2 ^ 64 - 1) (count_by (stands_at place) (left_out (fresh within S cs) es))
+
+-- a law: behind a run, each segment is known to send frames out at those of its members that are up, by the settings in force
+abbrev pub SendsByTheSettings : Type 0
+SendsByTheSettings =
+    (within : ℕ) (S : Settings) (cs : List TimedChange) (es : List Event)
+    → let s = behind_all (fresh within S cs) es in s.sends_at ≡ outlets s.settings.ports
 
 -- what happens is a record of the underlay
 abbrev pub happens_at_underlay : Happening → Bool
@@ -198,7 +204,8 @@ with_last came (Some r) = came ++ first_met r ∷ []
 abbrev pub came_behind : Before → ℕ → Happening → Before
 came_behind b moment (happenings.Change index) = record b { settings = settings_behind b.changes (happenings.Change index) b.settings }
 came_behind b moment (happenings.Record tap c) =
-    let o = coming b.settings tap moment c in record b { came = with_last b.came o; owed = with_last b.owed o }
+    let o = coming b.settings (outlets b.settings.ports) tap moment c in
+    record b { came = with_last b.came o; owed = with_last b.owed o }
 
 -- and behind what is sent for the frame of this number
 abbrev pub sent_behind : Before → ℕ → ℕ → Happening → Before

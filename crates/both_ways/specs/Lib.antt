@@ -1,5 +1,6 @@
 pub mod Told
 pub mod Sieve
 pub mod Members
+pub mod Outlets
 pub mod Laws
 pub mod Line

@@ -6,7 +6,8 @@
 use Rattle.std.specs.Prelude.{◌≡◌, refl, ℕ, ◌+◌, ◌-◌, ◌^◌, min, not, Bool, true, is_some}
 use Rattle.std.specs.Prelude.{if◌then◌else◌, List, [], ◌∷◌, length, replicate, set, slice_index, Option, Some, None}
 use Rattle.both_ways.specs.declared.sieve.BothWays.{BothWays}
-use Rattle.both_ways.specs.Told.{brought, is_sent, no_places, place_of, untagged}
+use Rattle.both_ways.specs.Outlets.{kept_outlets}
+use Rattle.both_ways.specs.Told.{brought, is_sent, no_places, outlets, place_of, untagged}
 use Rattle.echo_window.specs.Echo.{Record, Window, behind_entered, behind_met, echo_of, new_window}
 use Rattle.endpoint_core.specs.Arrival.{came_at, came_by}
 use Rattle.endpoint_core.specs.Settings.{Settings}
@@ -20,27 +21,44 @@ use Rattle.timeline.specs.declared.event.Happening.TheVariants as happenings
 use Rattle.timeline.specs.declared.source.Tap.{Tap}
 use Rattle.timeline.specs.declared.source.Tap.TheVariants.{Port, Underlay as AtUnderlay}
 
--- what is known behind some events: the settings in force, and the changes of the run; the frames that came in; and for each
--- place by its number how many records were left out there, up to the greatest number of 64 bits
+-- what is known behind some events: the settings in force, and the changes of the run; by the VIDs of segments where each sends
+-- frames out; the frames that came in; and for each place by its number how many records were left out there, up to the greatest
+-- number of 64 bits
 pub record Seen : Type 0 where
   pub settings : Settings
   pub changes : List TimedChange
+  pub sends_at : ℕ → List Bool
   pub window : Window
   pub counts : List ℕ
 
 -- no event was met yet: an echo comes at most so many nanoseconds behind its frame
 abbrev pub fresh : ℕ → Settings → List TimedChange → Seen
-fresh within S changes = record { settings = S; changes = changes; window = new_window within; counts = replicate 256 0 }
+fresh within S changes = record {
+  settings = S;
+  changes = changes;
+  sends_at = outlets S.ports;
+  window = new_window within;
+  counts = replicate 256 0;
+}
 
 -- what the code knows, where these settings are in force and these are the changes of the run
 abbrev pub seen_of : BothWays → Settings → List TimedChange → Seen
-seen_of b S changes = record { settings = S; changes = changes; window = b.window; counts = b.left_out }
+seen_of b S changes = record {
+  settings = S;
+  changes = changes;
+  sends_at = kept_outlets b.outlets S.ports;
+  window = b.window;
+  counts = b.left_out;
+}
 
 -- ---- a record
 
--- a record at a port, as a window is asked of it
+-- a record at a port, as a window is asked of it: of its octets without tag
+abbrev pub asked_of : ℕ → ℕ → List ℕ → Record
+asked_of place moment text = record { place = place; moment = moment; frame = text; awaited = no_places }
+
 abbrev pub asked : ℕ → ℕ → List ℕ → Record
-asked place moment b = record { place = place; moment = moment; frame = untagged b; awaited = no_places }
+asked place moment b = asked_of place moment (untagged b)
 
 -- at a port, it is an echo of a frame that came in
 abbrev pub is_echo : Window → ℕ → ℕ → List ℕ → Bool
@@ -57,13 +75,13 @@ window_asked w (Port port) moment c = behind_met w (asked port moment c.octets)
 window_asked w AtUnderlay moment c = w
 
 -- what comes in with it, if it is input, by the settings in force: the frame that it brings to a segment
-abbrev pub coming : Settings → Tap → ℕ → Captured → Option Record
-coming S (Port port) moment c =
-    if is_port (length S.ports.ports) port then brought S.ports port moment (came_at S.ports S.overlay port c.original c.octets) else None
-coming S AtUnderlay moment c = brought S.ports 0 moment (came_by S.overlay c.original c.octets)
+abbrev pub coming : Settings → (ℕ → List Bool) → Tap → ℕ → Captured → Option Record
+coming S sends_at (Port port) moment c =
+    if is_port (length S.ports.ports) port then brought sends_at port moment (came_at S.ports S.overlay port c.original c.octets) else None
+coming S sends_at AtUnderlay moment c = brought sends_at 0 moment (came_by S.overlay c.original c.octets)
 
 abbrev pub entering : Seen → Tap → ℕ → Captured → Option Record
-entering s tap moment c = if is_input s tap moment c then coming s.settings tap moment c else None
+entering s tap moment c = if is_input s tap moment c then coming s.settings s.sends_at tap moment c else None
 
 -- the frames that came in, once one came in or none did
 abbrev pub window_with : Window → Option Record → Window
@@ -79,6 +97,7 @@ abbrev pub record_behind : Seen → Tap → ℕ → Captured → Seen
 record_behind s tap moment c = record {
   settings = s.settings;
   changes = s.changes;
+  sends_at = s.sends_at;
   window = window_with (window_asked s.window tap moment c) (entering s tap moment c);
   counts = if is_input s tap moment c then s.counts else counted s.counts (place_of tap);
 }
@@ -90,9 +109,13 @@ abbrev pub happens_in : Seen → ℕ → Happening → Bool
 happens_in s moment (happenings.Change index) = true
 happens_in s moment (happenings.Record tap c) = is_input s tap moment c
 
+-- what is known with other settings in force
+abbrev pub with_settings : Seen → Settings → Seen
+with_settings s S = record s { settings = S; sends_at = outlets S.ports }
+
 -- what is known behind what happens
 abbrev pub happened : Seen → ℕ → Happening → Seen
-happened s moment (happenings.Change index) = record s { settings = settings_behind s.changes (happenings.Change index) s.settings }
+happened s moment (happenings.Change index) = with_settings s (settings_behind s.changes (happenings.Change index) s.settings)
 happened s moment (happenings.Record tap c) = record_behind s tap moment c
 
 -- an event is input

@@ -3,11 +3,11 @@
 -- without.
 --     outer_source   who sent a packet
 --     untagged       a frame without its tag
---     outlets        the ports by which a frame may leave
+--     outlets        where a segment sends frames out
 --     brought        what a frame that came to a segment tells a window
-use Rattle.std.specs.Prelude.{ℕ, ◌==◌, ◌&&◌, ◌++◌, nat_eq, nat_le, not, Bool, false, true, if◌then◌else◌}
+use Rattle.std.specs.Prelude.{ℕ, ◌==◌, ◌&&◌, ◌++◌, nat_le, not, Bool, false, true, if◌then◌else◌}
 use Rattle.std.specs.Prelude.{List, [], ◌∷◌, length, take, drop, replicate, set, Option, Some, None, Result, Ok, Err}
-use Rattle.std.specs.List.{filter}
+use Rattle.std.specs.List.{filter, list_all}
 use Rattle.echo_window.specs.Echo.{Record}
 use Rattle.endpoint_core.specs.Arrival.{Arrival}
 use Rattle.wire.specs.Datagram.{behind_tags, has_type}
@@ -64,14 +64,6 @@ is_sent U b = elim (outer_source b) [ None ↦ false | Some a ↦ is_own U a ]
 
 -- ---- which frame a record brings to a segment
 
--- a frame is sent on by a port of these: it is up (IEEE 802.1Q, 8.4), and not the place where the frame came in
-abbrev pub is_outlet : Ports → ℕ → ℕ → ℕ → Bool
-is_outlet P vid place port = is_up (row_at P vid) port && not (nat_eq port place)
-
--- the ports by which a frame of a segment may leave that came in at a place: the members of it that send it on
-abbrev pub outlets : Ports → ℕ → ℕ → List ℕ
-outlets P vid place = filter (is_outlet P vid place) (member_ports (row_at P vid))
-
 -- a set of places, by the numbers of 256, with some more
 abbrev pub with_places : List Bool → List ℕ → List Bool
 with_places places [] = places
@@ -81,22 +73,21 @@ with_places places (p ∷ ps) = with_places (set places p true) ps
 abbrev pub no_places : List Bool
 no_places = replicate 256 false
 
+-- the ports where a segment sends frames out: those of its members that are up (IEEE 802.1Q, 8.4)
+abbrev pub outlets : Ports → ℕ → List Bool
+outlets P vid = with_places no_places (filter (is_up (row_at P vid)) (member_ports (row_at P vid)))
+
 -- the octets of a frame, without its tag
 abbrev pub text_of : Frame → List ℕ
 text_of f = (f.dst ++ f.src) ++ f.body
 
--- what a window is told of a frame that came in at a place and may leave by these ports
-abbrev pub brought_to : ℕ → ℕ → Frame → List ℕ → Option Record
-brought_to place moment f [] = None
-brought_to place moment f (p ∷ ps) = Some (record {
-  place = place;
-  moment = moment;
-  frame = text_of f;
-  awaited = with_places no_places (p ∷ ps);
-})
+-- what a window is told of a frame of these octets that came in at a place and may leave by these ports, if there are any
+abbrev pub awaiting : ℕ → ℕ → List ℕ → List Bool → Option Record
+awaiting place moment text awaited =
+    if list_all not awaited then None else Some (record { place = place; moment = moment; frame = text; awaited = awaited })
 
--- what a window is told of a frame that came to a segment by way of a place, where it may leave by any port; nothing of what was
--- refused before
-abbrev pub brought : Ports → ℕ → ℕ → Result Arrival Refused → Option Record
-brought P place moment (Ok x) = brought_to place moment x.frame (outlets P x.vid place)
-brought P place moment (Err refused) = None
+-- what a window is told of a frame that came to a segment by way of a place, where each segment sends frames out at these ports:
+-- it may leave by all of them but the one where it came in. Nothing of what was refused before
+abbrev pub brought : (ℕ → List Bool) → ℕ → ℕ → Result Arrival Refused → Option Record
+brought sends_at place moment (Ok x) = awaiting place moment (text_of x.frame) (set (sends_at x.vid) place false)
+brought sends_at place moment (Err refused) = None

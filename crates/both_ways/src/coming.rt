@@ -1,29 +1,67 @@
 //! A frame that came to a segment, as a window is told of it.
-ghost use Rattle.std.specs.Prelude.{◌≡◌, ℕ, length, nat_eq, not};
-ghost use Rattle.both_ways.specs.Members.{IsThere};
+ghost use Rattle.std.specs.Prelude.{◌≡◌, ℕ, Ok};
+ghost use Rattle.both_ways.specs.Outlets.{kept_outlets};
 ghost use Rattle.both_ways.specs.Sieve.{window_with};
+ghost use Rattle.both_ways.specs.Told.{awaiting, brought, text_of};
 ghost use Rattle.echo_window.specs.Laid.{told as record_told};
-ghost use Rattle.both_ways.specs.Told.{brought, is_outlet, outlets, text_of, with_places};
-ghost use Rattle.overlay.specs.Ports.{Ports as ThePorts};
-ghost use Rattle.overlay.specs.Row.{row_at};
+ghost use Rattle.endpoint_core.specs.Arrival.{Arrival as Entered};
 
-use echo_window::{PlaceSet, Record, Window};
+use crate::outlets::Outlets;
+use echo_window::{FrameText, PlaceSet, Record, Window};
 use endpoint_core::Forwarding;
-use overlay::ports::{PortSet, Row};
-use wire::ether::{BridgeFrame, Vid};
+use overlay::ports::PortSet;
 
-/// Tells a window of a frame that came in at a place, if it came to a segment, with the ports by which it may leave. Where it
-/// may leave by none, there is nothing to tell.
-pub(crate) fn enter(window: &mut Window, ports: &PortSet, place: u8, moment: u64, came: &Forwarding)
-    ensures { window.new ≡ window_with window.old (brought ports.now place moment came.now) }
+/// Tells a window of a frame that came in at a port, whose octets without tag are these, if it came to a segment, with the ports by
+/// which it may leave. Where it may leave by none, there is nothing to tell.
+pub(crate) fn enter_frame(
+    window: &mut Window,
+    outlets: &mut Outlets,
+    ports: &PortSet,
+    port: u8,
+    moment: u64,
+    came: &Forwarding,
+    text: &FrameText,
+)
+    requires { (x : Entered) → came.now ≡ Ok x → text.now ≡ text_of x.frame }
+    ensures window { window.new ≡ window_with window.old (brought (kept_outlets outlets.old ports.now) port moment came.now) }
+    ensures outlets { (vid : ℕ) → kept_outlets outlets.new ports.now vid ≡ kept_outlets outlets.old ports.now vid }
 {
     let Ok(arrival) = came else {
         return;
     };
-    let mut awaited = PlaceSet::new();
-    if put_outlets(ports, arrival.segment(), place, &mut awaited) {
-        window.enter(&record_of(place, moment, arrival.frame(), &awaited));
+    let awaited = outlets.from_place(ports, arrival.segment(), port);
+    enter(window, port, moment, text, &awaited);
+}
+
+/// The same of a frame that a packet at the underlay brought.
+pub(crate) fn enter_packet(
+    window: &mut Window,
+    outlets: &mut Outlets,
+    ports: &PortSet,
+    moment: u64,
+    came: &Forwarding,
+)
+    ensures window { window.new ≡ window_with window.old (brought (kept_outlets outlets.old ports.now) 0 moment came.now) }
+    ensures outlets { (vid : ℕ) → kept_outlets outlets.new ports.now vid ≡ kept_outlets outlets.old ports.now vid }
+{
+    let Ok(arrival) = came else {
+        return;
+    };
+    let awaited = outlets.from_place(ports, arrival.segment(), 0);
+    let frame = arrival.frame();
+    let text = FrameText::new(frame.addresses, frame.body);
+    enter(window, 0, moment, &text, &awaited);
+}
+
+/// Tells a window of a frame that came in at a place, if it may be met again anywhere.
+#[inline(always)]
+fn enter(window: &mut Window, place: u8, moment: u64, text: &FrameText, awaited: &PlaceSet)
+    ensures { window.new ≡ window_with window.old (awaiting place moment text.now awaited.now) }
+{
+    if awaited.is_empty() {
+        return;
     }
+    window.enter(&record_of(place, moment, text, awaited));
 }
 
 /// A frame that came in at a place, as a window is told of it.
@@ -31,42 +69,15 @@ pub(crate) fn enter(window: &mut Window, ports: &PortSet, place: u8, moment: u64
 fn record_of<'a>(
     place: u8,
     moment: u64,
-    frame: &BridgeFrame<'a>,
+    frame: &'a FrameText<'a>,
     awaited: &'a PlaceSet,
 ) -> Record<'a>
-    ensures { record_told result ≡ record { place = place; moment = moment; frame = text_of frame.now; awaited = awaited.now } }
+    ensures { record_told result ≡ record { place = place; moment = moment; frame = frame.now; awaited = awaited.now } }
 {
     Record {
         place,
         moment,
-        addresses: frame.addresses,
-        rest: frame.body,
+        frame,
         awaited,
     }
-}
-
-/// Puts the ports into a set by which a frame of a segment may leave that came in at a place. Whether there is one.
-fn put_outlets(ports: &PortSet, vid: Vid, place: u8, set: &mut PlaceSet) -> bool
-    ensures set { set.new ≡ with_places set.old (outlets ports.now vid place) }
-    ensures any { result ≡ not (nat_eq (length (outlets ports.now vid place)) 0) }
-{
-    let row = ports.row(vid);
-    let mut members = row.members();
-    let mut any = false;
-    while let Some(port) = members.next() {
-        if is_outlet(&row, place, port) {
-            set.add(port);
-            any = true;
-        }
-    }
-    any
-}
-
-/// Whether a frame that came in at a place may leave by a member of its segment, by the row of that.
-#[inline(always)]
-fn is_outlet(row: &Row, place: u8, port: u8) -> bool
-    requires { IsThere row.now port }
-    ensures { (ports : ThePorts) (vid : ℕ) → row.now ≡ row_at ports vid → result ≡ is_outlet ports vid place port }
-{
-    row.is_up(port) && port != place
 }

@@ -1,6 +1,6 @@
 //! Laws of the definitions, as contracts of functions that do nothing.
 ghost use Rattle.both_ways.specs.Laws.{CountsWhatIsForgotten, CountsWhatIsLeftOut, GivesTheInputsBack, LeavesWhole};
-ghost use Rattle.both_ways.specs.Laws.{RunsTheSame, TakesInTurn, TakesWhatOthersSent};
+ghost use Rattle.both_ways.specs.Laws.{RunsTheSame, SendsByTheSettings, TakesInTurn, TakesWhatOthersSent};
 
 /// What is input of two rows of events, one behind the other, is what is of the first, and then what is of the second by all
 /// that is known behind the first.
@@ -11,6 +11,12 @@ pub fn takes_in_turn()
 /// Behind the events of a run, the count of a place is the number of its records that aren't input, up to 2^64 - 1.
 pub fn counts_what_is_left_out()
     ensures { CountsWhatIsLeftOut }
+{}
+
+/// Behind the events of a run each segment is known to send frames out at those of its members that are up by the settings in
+/// force, whatever changed before.
+pub fn sends_by_the_settings()
+    ensures { SendsByTheSettings }
 {}
 
 /// Of every row of events, those records of the underlay are input whose outer source is no own address of the endpoint, all of

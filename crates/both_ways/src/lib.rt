@@ -31,6 +31,7 @@
 //!   `laws::counts_what_is_left_out`.
 //! - How many frames went for want of room too early, and the least age of one, and the line that tells it with a time
 //!   below that age: `BothWays::forgotten`, `laws::counts_what_is_forgotten`, `ForgottenLine`.
+//! - Where segments send frames out is known by the settings in force, whatever changed: `laws::sends_by_the_settings`.
 //!
 //! Why it is so: captures tell no directions, but a packet tells its sender. So at the underlay its outer source decides,
 //! and is read first and alone: what is cut, damaged, or carries whatever it does was sent by who stands there. A frame
@@ -41,13 +42,15 @@
 //! depends on tables, but on the settings in force alone. A frame is compared without its tag, since each port has its own way to tag. A
 //! frame that comes in at two ports at the same time, as a loop brings it, is input once: captures of one direction tell
 //! that better. How many frames come within the time no bound foresees: where they are more than fit, that is told, and
-//! what time would fit.
+//! what time would fit. Where a segment sends frames out only a change alters: it is worked out when the first frame of the
+//! segment comes in, and kept until the next change.
 #![tactic(auto)]
 
 mod coming;
 pub mod laws;
 mod line;
 mod nobody;
+mod outlets;
 mod place;
 mod sender;
 mod sieve;

@@ -1,7 +1,8 @@
 //! Where a record was captured, and what it is compared by.
-ghost use Rattle.std.specs.Prelude.{◌≡◌, ◌++◌};
+ghost use Rattle.std.specs.Prelude.{◌≡◌};
 ghost use Rattle.both_ways.specs.Told.{place_of, untagged};
 
+use echo_window::FrameText;
 use timeline::Tap;
 use wire::ether::{EtherView, Tagging};
 
@@ -15,36 +16,22 @@ pub(crate) fn place_of(tap: Tap) -> u8
     }
 }
 
-/// A frame without its VLAN tag: two texts, one behind the other.
-#[derive(Clone, Copy, Debug)]
-pub(crate) struct FrameText<'a> {
-    /// The addresses, where a tag was behind them.
-    pub(crate) front: &'a [u8],
-    pub(crate) rest: &'a [u8],
-}
-
 /// A frame without its tag.
 pub(crate) fn untagged(octets: &[u8]) -> FrameText<'_>
-    ensures { result.front.now ++ result.rest.now ≡ untagged octets.now }
+    ensures { result ≡ untagged octets.now }
 {
     let Ok(view) = EtherView::read(octets) else {
         return as_it_stands(octets);
     };
     match view.split_tag() {
-        Tagging::Tagged(_, body) => FrameText {
-            front: view.addresses(),
-            rest: body,
-        },
+        Tagging::Tagged(_, body) => FrameText::new(view.addresses(), body),
         Tagging::Plain(_) | Tagging::Cut => as_it_stands(octets),
     }
 }
 
 /// A frame that has no tag to take off.
 fn as_it_stands(octets: &[u8]) -> FrameText<'_>
-    ensures { result.front.now ++ result.rest.now ≡ octets.now }
+    ensures { result ≡ octets.now }
 {
-    FrameText {
-        front: &octets[..0],
-        rest: octets,
-    }
+    FrameText::new(&octets[..0], octets)
 }

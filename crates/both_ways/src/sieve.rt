@@ -1,6 +1,6 @@
 //! The sieve.
-ghost use Rattle.std.specs.Prelude.{◌≡◌, ◌∷◌, List, IfOk, if◌then◌else◌, is_some, slice_index};
-ghost use Rattle.echo_window.specs.Echo.{behind_met};
+ghost use Rattle.std.specs.Prelude.{◌≡◌, ◌∷◌, List, IfOk, if◌then◌else◌, is_some, slice_index, true};
+ghost use Rattle.echo_window.specs.Echo.{behind_met, echo_of};
 ghost use Rattle.endpoint_core.specs.Kept.{state_of};
 ghost use Rattle.endpoint_core.specs.Settings.{Settings};
 ghost use Rattle.overlay.specs.declared.settings.change.TimedChange.{TimedChange as ATimedChange};
@@ -10,15 +10,16 @@ ghost use Rattle.timeline.specs.declared.event.Event.{Event as AnEvent};
 ghost use Rattle.timeline.specs.declared.event.Happening.TheVariants.{Record as Recorded};
 ghost use Rattle.timeline.specs.declared.source.Tap.TheVariants.{Port, Underlay as AtUnderlay};
 ghost use Rattle.both_ways.specs.Line.{line_of};
-ghost use Rattle.both_ways.specs.Sieve.{asked, behind, counted, fresh, is_echo, is_input, is_taken, none_taken, record_behind};
-ghost use Rattle.both_ways.specs.Sieve.{seen_of, taken};
+ghost use Rattle.both_ways.specs.Sieve.{asked_of, behind, counted, fresh, is_input, is_taken, none_taken, record_behind};
+ghost use Rattle.both_ways.specs.Sieve.{seen_of, taken, with_settings};
 ghost use Rattle.both_ways.specs.Told.{place_of};
 
-use crate::coming::enter;
+use crate::coming::{enter_frame, enter_packet};
 use crate::line::ForgottenLine;
+use crate::outlets::Outlets;
 use crate::place::{place_of, untagged};
 use crate::sender::is_sent;
-use echo_window::{Forgotten, PlaceSet, Record, Window};
+use echo_window::{Forgotten, FrameText, PlaceSet, Record, Window};
 use endpoint_core::{Endpoint, Forwarding};
 use std::alloc::{AllocError, Global};
 use stream_run::Sieve;
@@ -35,6 +36,7 @@ const PLACES: usize = 256;
 #[derive(Drop)]
 pub struct BothWays {
     window: Window,
+    outlets: Outlets,
     /// By the numbers of the places. Each number that a port could have has its count, so that none is looked for.
     left_out: [u64; PLACES],
 }
@@ -47,6 +49,7 @@ impl BothWays {
     {
         Ok(BothWays {
             window: Window::new(alloc, within)?,
+            outlets: Outlets::new(alloc)?,
             left_out: [0; PLACES],
         })
     }
@@ -67,7 +70,7 @@ impl BothWays {
             ≡ (if result then event.now ∷ taken (seen_of self.new next changes) es else taken (seen_of self.new next changes) es) }
     {
         match &event.happening {
-            Happening::Change(_) => true,
+            Happening::Change(_) => self.takes_change(),
             Happening::Record(tap, captured) => {
                 self.takes_record(endpoint, *tap, event.moment, captured, came)
             }
@@ -102,6 +105,16 @@ impl BothWays {
             within: self.window.within(),
             forgotten,
         })
+    }
+
+    /// A change is input: what is known of the settings in force goes.
+    fn takes_change(&mut self) -> bool
+        ensures answer { result ≡ true }
+        ensures behind { (S : Settings) (changes : List ATimedChange) (before : Settings)
+            → seen_of self.new S changes ≡ with_settings (seen_of self.old before changes) S }
+    {
+        self.outlets.forget();
+        true
     }
 
     /// Whether a record is input.
@@ -145,15 +158,18 @@ impl BothWays {
             ≡ record (record_behind (seen_of self.old (state_of endpoint.now).bridges.settings changes) (Port port) moment captured.now)
             { counts = (seen_of self.old (state_of endpoint.now).bridges.settings changes).counts } }
     {
-        if is_echo(&mut self.window, port, moment, captured.octets) {
+        let frame = untagged(captured.octets);
+        if is_echo(&mut self.window, port, moment, &frame) {
             return false;
         }
-        enter(
+        enter_frame(
             &mut self.window,
+            &mut self.outlets,
             endpoint.state().ports(),
             port,
             moment,
             came,
+            &frame,
         );
         true
     }
@@ -176,7 +192,13 @@ impl BothWays {
         if is_sent(endpoint.under().settings(), captured.octets) {
             return false;
         }
-        enter(&mut self.window, endpoint.state().ports(), 0, moment, came);
+        enter_packet(
+            &mut self.window,
+            &mut self.outlets,
+            endpoint.state().ports(),
+            moment,
+            came,
+        );
         true
     }
 }
@@ -195,17 +217,15 @@ impl Sieve for BothWays {
     }
 }
 
-/// Whether a record at a port is an echo of a frame that came in, by a window that meets it.
-fn is_echo(window: &mut Window, port: u8, moment: u64, octets: &[u8]) -> bool
-    ensures answer { result ≡ is_echo window.old port moment octets.now }
-    ensures behind { window.new ≡ behind_met window.old (asked port moment octets.now) }
+/// Whether a record at a port, whose octets without tag are these, is an echo of a frame that came in, by a window that meets it.
+fn is_echo(window: &mut Window, port: u8, moment: u64, frame: &FrameText) -> bool
+    ensures answer { result ≡ is_some (echo_of window.old.within window.old.came (asked_of port moment frame.now)) }
+    ensures behind { window.new ≡ behind_met window.old (asked_of port moment frame.now) }
 {
-    let frame = untagged(octets);
     let record = Record {
         place: port,
         moment,
-        addresses: frame.front,
-        rest: frame.rest,
+        frame,
         awaited: &PlaceSet::new(),
     };
     window.meet(&record).is_some()

@@ -1,6 +1,8 @@
+mod Alike
 pub mod Carrying
 pub mod Clocking
 pub mod Fetching
+mod Holding
 pub mod Itself
 mod KeyBack
 pub mod Keys
@@ -9,6 +11,7 @@ mod Looking
 pub mod Opening
 pub mod Port
 pub mod Receiving
+mod Rowing
 pub mod Sending
 pub mod Showing
 pub mod Sifting

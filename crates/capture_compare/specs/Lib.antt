@@ -7,6 +7,9 @@ pub mod Counting
 pub mod Counts
 pub mod Cut
 pub mod Difference
+pub mod Differing
+pub mod DifferingLaws
+pub mod Finding
 pub mod Key
 pub mod KeyRead
 pub mod Laws

@@ -1,11 +1,13 @@
--- The line of a record that is of one capture alone. It states no standard.
+-- The line of a record that is of one capture alone, and those of what of near ones differs. They state no standard.
 use Rattle.std.specs.Prelude.{ℕ, List, [], ◌++◌, codes, decimal, Option, Some, None}
 use Rattle.timeline.specs.declared.source.Tap.{Tap}
 use Rattle.timeline.specs.Words.{tap_word}
 use Rattle.capture_compare.specs.declared.fault.Side.{Side}
 use Rattle.capture_compare.specs.declared.fault.Side.TheVariants as sides
+use Rattle.capture_compare.specs.Tables.{place_words}
 use Rattle.capture_compare.specs.Texts.{difference_text, segment_text}
 use Rattle.capture_compare.specs.declared.lonely.difference.Difference.{Difference}
+use Rattle.capture_compare.specs.declared.lonely.pairs.DifferenceRow.{DifferenceRow}
 use Rattle.capture_compare.specs.declared.lonely.segment.RecordSegment.{RecordSegment}
 use Rattle.capture_compare.specs.declared.lines.lonely.Lonely.{Lonely}
 use Rattle.capture_compare.specs.declared.lines.lonely_line.LonelyLine.{LonelyLine}
@@ -47,3 +49,26 @@ behind_difference (Some difference) = codes " " ++ difference_text difference
 abbrev pub lonely_line : LonelyLine → List ℕ
 lonely_line l =
     lonely_front l.record ++ behind_segment l.segment ++ behind_event l.event ++ behind_difference l.difference ++ codes "\n"
+
+-- ---- what of near ones differs
+
+-- the records of a pair, the one that was received in front
+unfoldable pub first_records : ℕ → ℕ → List ℕ
+first_records received sent = codes ", first record " ++ decimal received ++ codes " for " ++ decimal sent
+
+-- the segment and the difference in front
+unfoldable pub row_front : RecordSegment → Difference → List ℕ
+row_front segment difference = segment_text segment ++ codes ": " ++ difference_text difference ++ codes ": "
+
+-- the line of how many pairs there are of these, and of the first
+abbrev pub difference_line : Option Tap → DifferenceRow → List ℕ
+difference_line at row =
+    place_words at
+    ++ row_front row.first.segment row.first.difference
+    ++ decimal row.count
+    ++ first_records row.first.received row.first.sent
+    ++ codes "\n"
+
+-- and of how many pairs are of others
+abbrev pub others_line : Option Tap → ℕ → List ℕ
+others_line at count = place_words at ++ codes "other differences: " ++ decimal count ++ codes "\n"

@@ -105,13 +105,13 @@ are_many echoes records = nat_lt 0 echoes && nat_le records (echoes * 10)
 
 -- what is said of such records at a tap
 abbrev pub echo_words : Tap → List ℕ
-echo_words (Port port) = codes "records came in elsewhere"
-echo_words Underlay = codes "packets left us or came in elsewhere"
+echo_words (Port port) = codes "records came in elsewhere within 10 ms before"
+echo_words Underlay = codes "packets left us"
 
 -- its line, where they are many
 unfoldable pub echoes_text : Echoes → List ℕ
 echoes_text e =
     if are_many e.echoes e.records
     then tap_word e.tap ++ codes ": " ++ decimal e.echoes ++ codes " of " ++ decimal e.records ++ codes " " ++ echo_words e.tap
-    ++ codes " within 10 ms before: does this capture have what left, too? run --both, or tcpdump -Q in\n"
+    ++ codes ": does this capture have what left, too? run --both, or tcpdump -Q in\n"
     else []

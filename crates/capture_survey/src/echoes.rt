@@ -39,8 +39,7 @@ impl fmt::Display for Echoes {
         let words = EchoWords(tap);
         write!(
             f,
-            "{tap}: {echoes} of {records} {words} within 10 ms before: does this capture have what left, too? run --both, or \
-            tcpdump -Q in\n"
+            "{tap}: {echoes} of {records} {words}: does this capture have what left, too? run --both, or tcpdump -Q in\n"
         )
     }
 }
@@ -54,8 +53,8 @@ impl fmt::Display for EchoWords {
 
     fn fmt<W: fmt::Write>(&self, f: &mut fmt::Formatter<W>) -> fmt::Result {
         match self.0 {
-            Tap::Port(_) => write!(f, "records came in elsewhere"),
-            Tap::Underlay => write!(f, "packets left us or came in elsewhere"),
+            Tap::Port(_) => write!(f, "records came in elsewhere within 10 ms before"),
+            Tap::Underlay => write!(f, "packets left us"),
         }
     }
 }

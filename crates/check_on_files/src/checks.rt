@@ -12,8 +12,9 @@ use fault_notes::{missing_interface, open_files_line};
 use overlay_config::{Settings, TimedChange};
 use pcap::kind::FileKind;
 use pcap::text::CaptureFault;
-use program_faults::{Failure, OneLine};
-use program_files::{Names, SeenCapture, Shown, open_seen, print_shown, read_file, read_if_given};
+use program_files::{
+    Failure, Names, OneLine, SeenCapture, Shown, open_seen, print_shown, read_file, read_if_given,
+};
 use runs_on_files::Texts;
 use std::fmt::Write;
 use std::io::{Input, Read};

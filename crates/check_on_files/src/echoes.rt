@@ -3,8 +3,7 @@ ghost use Rattle.std.specs.Prelude.{◌<◌};
 
 use both_ways::{BothWays, Nobody, WITHIN};
 use capture_survey::Echoes;
-use program_faults::Failure;
-use program_files::{FailedOutputs, Names, Shown, print_shown};
+use program_files::{FailedOutputs, Failure, Names, Shown, print_shown};
 use runs_on_files::{Job, Scope, Texts, run_on_files};
 use std::fmt::Write;
 use std::io::Input;

@@ -69,6 +69,7 @@ explained_by a words m fault.NoFolder is has none lacks = (taken_by a words is n
 explained_by a words m fault.Ignored is has none lacks = (taken_by a words is none, meant_by a words m None is has none lacks)
 explained_by a words m fault.InputTwice is has none lacks = absurd lacks
 explained_by a words m fault.NoSegments is has none lacks = absurd lacks
+explained_by a words m fault.OutputTwice is has none lacks = absurd lacks
 explained_by a words m fault.NoCapture is has none lacks = absurd lacks
 
 -- ---- a run of which something is told
@@ -120,4 +121,5 @@ explained_line words fault.NoFolder h = h
 explained_line words fault.Ignored h = h
 explained_line words fault.InputTwice h = absurd h
 explained_line words fault.NoSegments h = absurd h
+explained_line words fault.OutputTwice h = absurd h
 explained_line words fault.NoCapture h = absurd h

@@ -50,6 +50,7 @@ rule_for arguments.Talkers = flag_rule (codes "talkers")
 rule_for arguments.Json = flag_rule (codes "json")
 rule_for arguments.RunJson = flag_rule (codes "json")
 rule_for arguments.Quiet = flag_rule (codes "quiet")
+rule_for arguments.Pcapng = option_rule (codes "pcapng")
 rule_for arguments.Segments = option_rule (codes "segments")
 rule_for arguments.Digests = option_rule (codes "digests")
 rule_for arguments.Both = flag_rule (codes "both")
@@ -101,8 +102,8 @@ abbrev pub run_with : Argument → List Argument
 run_with out =
     arguments.Settings ∷ arguments.Changes ∷ arguments.Underlay
     ∷ out ∷ arguments.Ports ∷ arguments.Both ∷ arguments.Within ∷ arguments.Tables ∷ arguments.TablesAt
-    ∷ arguments.Why ∷ arguments.Summary ∷ arguments.Talkers ∷ arguments.RunJson ∷ arguments.Segments ∷ arguments.Digests
-    ∷ arguments.Quiet ∷ []
+    ∷ arguments.Why ∷ arguments.Summary ∷ arguments.Talkers ∷ arguments.RunJson ∷ arguments.Pcapng ∷ arguments.Segments
+    ∷ arguments.Digests ∷ arguments.Quiet ∷ []
 
 -- what it takes
 abbrev pub arguments_of : Subcommand → List Argument

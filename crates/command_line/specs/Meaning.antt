@@ -20,9 +20,9 @@ use Rattle.command_line.specs.declared.line.LineFault.TheVariants as fault
 -- a command with its values: of `run` the settings, the changes, the underlay, the folder if there is one, the ports, whether
 -- the tables are told, the moment at which they are, the events that are told in full, whether the counts are told, the
 -- segments that a part takes, the file of the digests that are lent to it, whether what the switch itself sent is left out, how
--- long behind its frame that may come, whether all is told as JSON, too, and whether no progress is shown; of `check` the settings,
--- the changes, the underlay, the ports, and whether it is told as JSON; of `explain` the settings, the depth, whether values are
--- told, the capture, and the same; of `migrate` the settings; of `digest` the underlay and the ports; of `merge` the folder, those
+-- long behind its frame that may come, whether all is told as JSON, too, whether no progress is shown, and the file of its view; of
+-- `check` the settings, the changes, the underlay, the ports, and whether it is told as JSON; of `explain` the settings, the depth,
+-- whether values are told, the capture, and the same; of `migrate` the settings; of `digest` the underlay and the ports; of `merge` the folder, those
 -- of the parts, whether the tables are told, whether the counts are, and whether they are told as JSON; of `split` the folder and
 -- the capture; of `report` the folder that a run wrote into and the page; of `compare` what was sent, what was received, how much
 -- later a record may be, how far the clock of what was received is ahead, whether what is alone is listed, what a table is by,
@@ -32,7 +32,7 @@ use Rattle.command_line.specs.declared.line.LineFault.TheVariants as fault
 pub data Meaning : Type 0 where
   sample : Meaning
   run : Text → Option Text → Text → Option Text → List Text → Bool
-      → Option ℕ → List Text → Bool → Bool → Option Text → Option Text → Bool → Option Text → Bool → Bool → Meaning
+      → Option ℕ → List Text → Bool → Bool → Option Text → Option Text → Bool → Option Text → Bool → Bool → Option Text → Meaning
   check : Text → Option Text → Option Text → List Text → Bool → Meaning
   explain : Text → ℕ → Bool → Text → Bool → Meaning
   migrate : Text → Meaning
@@ -47,10 +47,10 @@ pub data Meaning : Type 0 where
 -- what a command line is as such a meaning
 abbrev pub meaning_of : Line → Meaning
 meaning_of line.Sample = sample
-meaning_of (line.Run settings changes underlay out ports tables tables_at why summary talkers segments digests both within json quiet) =
+meaning_of (line.Run settings changes underlay out ports tables tables_at why summary talkers segments digests both within json quiet pcapng) =
     run settings.now (option_map (λ t. t.now) changes) underlay.now (option_map (λ t. t.now) out) (texts ports.items) tables tables_at
     (texts why.items) summary talkers (option_map (λ t. t.now) segments) (option_map (λ t. t.now) digests)
-    both (option_map (λ t. t.now) within) json quiet
+    both (option_map (λ t. t.now) within) json quiet (option_map (λ t. t.now) pcapng)
 meaning_of (line.Check settings changes underlay ports json) =
     check settings.now (option_map (λ t. t.now) changes) (option_map (λ t. t.now) underlay) (texts ports.items) json
 meaning_of (line.Explain settings depth values capture json) = explain settings.now depth values capture.now json
@@ -69,7 +69,7 @@ meaning_of (line.CompareWorked worked underlay ports within shift settings stric
 -- a depth is 1 to 4
 abbrev pub HasDepth : Line → Type 0
 HasDepth line.Sample = ⊤
-HasDepth (line.Run settings changes underlay out ports tables tables_at why summary talkers segments digests both within json quiet) = ⊤
+HasDepth (line.Run settings changes underlay out ports tables tables_at why summary talkers segments digests both within json quiet pcapng) = ⊤
 HasDepth (line.Check settings changes underlay ports json) = ⊤
 HasDepth (line.Explain settings depth values capture json) = (1 ≤ depth) × (depth ≤ 4)
 HasDepth (line.Migrate settings) = ⊤
@@ -133,7 +133,7 @@ run_meant rows = option_and_then (λ s. option_and_then (λ u.
     option_map (λ ps. run s (changes_in rows) u (first_of (codes "out") rows) ps (is_set (codes "tables") rows) (moment_in rows)
     (why_in rows) (is_set (codes "summary") rows) (is_set (codes "talkers") rows) (first_of (codes "segments") rows)
     (first_of (codes "digests") rows) (is_set (codes "both") rows) (first_of (codes "within") rows) (is_set (codes "json") rows)
-    (is_set (codes "quiet") rows)) (all_of (codes "ports") rows)) (first_of (codes "underlay") rows)) (settings_in rows)
+    (is_set (codes "quiet") rows) (first_of (codes "pcapng") rows)) (all_of (codes "ports") rows)) (first_of (codes "underlay") rows)) (settings_in rows)
 
 -- what `check` is asked to do
 abbrev pub check_meant : List Row → Option Meaning
@@ -246,11 +246,20 @@ abbrev pub has_any : List Text → Bool
 has_any [] = false
 has_any (t ∷ ts) = true
 
+-- something is printed of a run besides its outputs
+abbrev pub is_printing : Meaning → Bool
+is_printing (run settings changes underlay out ports tables tables_at why summary talkers segments digests both within json quiet pcapng) =
+    tables || (is_some tables_at || (has_any why || (summary || talkers)))
+is_printing _ = false
+
+-- the file of the view of a run, where there is one
+abbrev pub view_of : Meaning → Option Text
+view_of (run settings changes underlay out ports tables tables_at why summary talkers segments digests both within json quiet pcapng) = pcapng
+view_of _ = None
+
 -- something is told of a run besides its outputs
 abbrev pub is_telling : Meaning → Bool
-is_telling (run settings changes underlay out ports tables tables_at why summary talkers segments digests both within json quiet) =
-    tables || (is_some tables_at || (has_any why || (summary || talkers)))
-is_telling _ = false
+is_telling meaning = is_printing meaning || is_some (view_of meaning)
 
 -- the same, where it is so
 abbrev pub telling : Meaning → Option Meaning
@@ -277,7 +286,7 @@ inputs_among names = count_by (λ name. bytes_eq (file_of name) (codes "-")) nam
 -- how many captures are standard input; texts are files, whatever their names, and beside what a run wrote '-' is no capture
 abbrev pub input_uses : Meaning → ℕ
 input_uses sample = 0
-input_uses (run settings changes underlay out ports tables tables_at why summary talkers segments digests both within json quiet) =
+input_uses (run settings changes underlay out ports tables tables_at why summary talkers segments digests both within json quiet pcapng) =
     inputs_among (underlay ∷ ports)
 input_uses (check settings changes None ports json) = inputs_among ports
 input_uses (check settings changes (Some underlay) ports json) = inputs_among (underlay ∷ ports)
@@ -298,13 +307,28 @@ ReadsInputOnce meaning = input_uses meaning ≤ 1
 
 -- digests are lent to a run that is no part
 abbrev pub lends_to_a_whole : Meaning → Bool
-lends_to_a_whole (run settings changes underlay out ports tables tables_at why summary talkers segments digests both within json quiet) =
+lends_to_a_whole (run settings changes underlay out ports tables tables_at why summary talkers segments digests both within json quiet pcapng) =
     is_some digests && not (is_some segments)
 lends_to_a_whole _ = false
 
 -- digests are lent to nothing but a part
 abbrev pub LendsToParts : Meaning → Type 0
 LendsToParts meaning = lends_to_a_whole meaning ≡ false
+
+-- ---- standard output
+
+-- a file is standard output
+abbrev pub is_output : Option Text → Bool
+is_output None = false
+is_output (Some name) = bytes_eq name (codes "-")
+
+-- the view of a run goes to standard output, and something else is printed there
+abbrev pub mixes_output : Meaning → Bool
+mixes_output meaning = is_printing meaning && is_output (view_of meaning)
+
+-- nothing is mixed there
+abbrev pub KeepsOutputApart : Meaning → Type 0
+KeepsOutputApart meaning = mixes_output meaning ≡ false
 
 -- ---- comparisons of nothing
 
@@ -334,7 +358,8 @@ RefusesAsWhole words e = (kind_of e ≡ OutOfMemory) ⊎ ((takes tep_app words �
 -- its matches have one, but are of `compare` with captures as it doesn't take them, NoFolder with captures that were worked out by
 -- no run but settings, or strictly, and Ignored with something to leave aside that it doesn't know; InputTwice where it takes them
 -- and they ask for standard input more than once, NoSegments where it takes them and they lend digests to a run that is no part,
--- NoCapture where it takes them and they compare what a run wrote with no capture
+-- OutputTwice where it takes them and they print something beside a view on standard output, NoCapture where it takes them and they
+-- compare what a run wrote with no capture
 abbrev pub Explains : List Text → LineFault → Type 0
 Explains words fault.OutOfMemory = ⊤
 Explains words (fault.Refused e) = (takes tep_app words ≡ false)
@@ -345,6 +370,7 @@ Explains words fault.NoFolder = (fault_of tep_app words ≡ []) × (words_meant 
 Explains words fault.Ignored = (fault_of tep_app words ≡ []) × (words_meant words ≡ None)
 Explains words fault.InputTwice = AreTaken words × IsSomeAnd (words_meant words) (λ meaning. 2 ≤ input_uses meaning)
 Explains words fault.NoSegments = AreTaken words × IsSomeAnd (words_meant words) (λ meaning. lends_to_a_whole meaning ≡ true)
+Explains words fault.OutputTwice = AreTaken words × IsSomeAnd (words_meant words) (λ meaning. mixes_output meaning ≡ true)
 Explains words fault.NoCapture = AreTaken words × IsSomeAnd (words_meant words) (λ meaning. compares_nothing meaning ≡ true)
 
 -- the same of what is read before it's known what the words ask for
@@ -357,6 +383,7 @@ ExplainsWords words fault.NoFolder = Explains words fault.NoFolder
 ExplainsWords words fault.Ignored = Explains words fault.Ignored
 ExplainsWords words fault.InputTwice = ⊥
 ExplainsWords words fault.NoSegments = ⊥
+ExplainsWords words fault.OutputTwice = ⊥
 ExplainsWords words fault.NoCapture = ⊥
 
 -- the same of the part behind the parse, which refuses nothing but captures that `compare` doesn't take
@@ -369,6 +396,7 @@ LacksValue meant fault.NoFolder = meant ≡ None
 LacksValue meant fault.Ignored = meant ≡ None
 LacksValue meant fault.InputTwice = ⊥
 LacksValue meant fault.NoSegments = ⊥
+LacksValue meant fault.OutputTwice = ⊥
 LacksValue meant fault.NoCapture = ⊥
 
 -- what the part behind the parse answers, where the matches mean this: a line that means it, whose depth is 1 to 4, or what is

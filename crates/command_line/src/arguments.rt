@@ -50,6 +50,8 @@ pub enum Argument {
     RunJson,
     /// Whether no progress is shown.
     Quiet,
+    /// The file of the view of a run.
+    Pcapng,
     /// The segments that a part of a run takes.
     Segments,
     /// The digests that are lent to a part of a run.
@@ -188,6 +190,12 @@ impl Argument {
                 alloc,
                 "quiet",
                 "Shows no progress where standard error is a terminal",
+            ),
+            Argument::Pcapng => option(
+                alloc,
+                "pcapng",
+                FILE,
+                "Writes what came and what left, each with its decision, into one capture; '-' is standard output",
             ),
             Argument::Segments => option(
                 alloc,
@@ -332,7 +340,7 @@ fn run_out<'a>(alloc: Global) -> Arg<'a>
         alloc,
         "out",
         DIR,
-        "The folder that outputs are written into, which must exist; not needed where something is printed",
+        "The folder that outputs are written into, which must exist; needed where nothing else is written or printed",
     )
     .short('o')
 }

@@ -11,6 +11,9 @@ ghost use Rattle.command_line.specs.Capture.{file_of, interface_of};
 /// The name by which standard input is asked for, where a capture's file is named.
 pub const STANDARD_INPUT: &str = "-";
 
+/// The name by which standard output is asked for, where the view of a run is.
+pub const STANDARD_OUTPUT: &str = "-";
+
 /// What stands for a capture of which there is none, where what a run wrote is compared.
 pub const NO_CAPTURE: &str = "-";
 

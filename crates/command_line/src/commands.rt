@@ -155,6 +155,7 @@ macro_rules! run_with {
             Argument::Summary,
             Argument::Talkers,
             Argument::RunJson,
+            Argument::Pcapng,
             Argument::Segments,
             Argument::Digests,
             Argument::Quiet,
@@ -163,10 +164,10 @@ macro_rules! run_with {
 }
 
 /// What `run` takes.
-const RUN: [Argument; 16] = run_with!(Argument::RunOut);
+const RUN: [Argument; 17] = run_with!(Argument::RunOut);
 
 /// What `run` takes where its folder may be left out.
-const TELLING_RUN: [Argument; 16] = run_with!(Argument::OptionalOut);
+const TELLING_RUN: [Argument; 17] = run_with!(Argument::OptionalOut);
 
 /// What `check` takes.
 const CHECK: [Argument; 5] = [

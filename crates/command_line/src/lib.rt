@@ -8,16 +8,17 @@
 //! Proved: where `line_of` answers a line, its command and values are those that `clap`'s own definition of simple commands
 //! gives for the words, or where it doesn't take them, those that it gives of a run which may leave its folder out and of which
 //! something is told. Each fault but OutOfMemory comes only where that definition says so of the words. A line has no empty
-//! name, at most one capture that is standard input, digests for a part alone, something to compare, and a depth of 1 to 4. A
-//! capture's name is parted at its last `#`. A text is a time exactly where it is a number without leading zeros, below 2^64, and one of
-//! four units, of less than 2^64 nanoseconds.
+//! name, at most one capture that is standard input, nothing that is printed beside a view on standard output, digests for a part
+//! alone, something to compare, and a depth of 1 to 4. A capture's name is parted at its last `#`. A text is a time exactly where it
+//! is a number without leading zeros, below 2^64, and one of four units, of less than 2^64 nanoseconds.
 //!
 //! Proved besides:
 //! - Refused comes only where that definition takes the words as neither; NoValue and Unpaired only where it takes them
 //!   and they mean no line, since a required value is missing or `compare` has captures as it doesn't take them;
 //!   NoFolder and Ignored only where they mean none either; InputTwice only where it takes them and more than one
 //!   capture's file is standard input, NoSegments only where it takes them and they lend digests to a run that is no
-//!   part, NoCapture only where it takes them and they compare what a run wrote with no capture: `line_of`.
+//!   part, OutputTwice only where it takes them and something is printed beside a view on standard output, NoCapture only
+//!   where it takes them and they compare what a run wrote with no capture: `line_of`.
 //! - The file and the interface of a capture's name are what stands before and behind its last `#`, the whole name
 //!   where there is none, and no interface where nothing stands behind it: `capture_name`.
 //!
@@ -36,6 +37,6 @@ mod matches;
 mod time;
 mod words;
 
-pub use capture::{CaptureName, NO_CAPTURE, STANDARD_INPUT, capture_name};
+pub use capture::{CaptureName, NO_CAPTURE, STANDARD_INPUT, STANDARD_OUTPUT, capture_name};
 pub use line::{Line, LineFault, line_of};
 pub use time::time_of;

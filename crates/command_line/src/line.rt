@@ -1,12 +1,13 @@
 //! The lines that the program takes.
-ghost use Rattle.std.specs.Prelude.{◌≡◌, ◌≤◌, IfOk, IfErr, OnOk, Some, codes, length};
+ghost use Rattle.std.specs.Prelude.{◌≡◌, ◌≤◌, IfOk, IfErr, OnOk, Some, codes, length, option_map};
 ghost use Rattle.clap.specs.Walk.{texts};
 ghost use Rattle.std.specs.Str.{bytes_eq};
 ghost use Rattle.command_line.specs.Meaning.{AreTaken, ComparesSomething, Explains, HasDepth, LendsToParts, ReadsInputOnce};
-ghost use Rattle.command_line.specs.Meaning.{are_no_captures, compares_nothing, input_uses, inputs_among};
-ghost use Rattle.command_line.specs.Meaning.{lends_to_a_whole, meaning_of, words_meant};
+ghost use Rattle.command_line.specs.Meaning.{KeepsOutputApart, are_no_captures, compares_nothing, input_uses, inputs_among};
+ghost use Rattle.command_line.specs.Meaning.{is_output, is_printing, lends_to_a_whole, meaning_of, mixes_output, view_of};
+ghost use Rattle.command_line.specs.Meaning.{words_meant};
 
-use crate::capture::{NO_CAPTURE, STANDARD_INPUT, capture_name};
+use crate::capture::{NO_CAPTURE, STANDARD_INPUT, STANDARD_OUTPUT, capture_name};
 use crate::words::line_in;
 use std::alloc::Global;
 use thiserror::Error;
@@ -51,6 +52,8 @@ pub enum Line<'a> {
         json: bool,
         /// Whether no progress is shown.
         quiet: bool,
+        /// The file of its view, where there is one: one capture of what came and what left. [`STANDARD_OUTPUT`] is one.
+        pcapng: Option<&'a str>,
     },
     /// A look at the texts, and at the captures that are named.
     Check {
@@ -190,6 +193,9 @@ pub enum LineFault {
     /// Digests are lent to a run that is no part.
     #[error("error: --digests lends digests to a part of a run, and there is no --segments")]
     NoSegments,
+    /// A view goes to standard output, and something else is printed there.
+    #[error("error: standard output can be one thing only: --pcapng - or what --why, --tables, --tables-at, --summary and --talkers print")]
+    OutputTwice,
     /// What a run wrote is compared with no capture.
     #[error("error: each capture is '-', so nothing is compared")]
     NoCapture,
@@ -201,6 +207,7 @@ pub fn line_of<'a>(alloc: Global, words: &'a [&'a str]) -> Result<Line<'a>, Line
     ensures depth { IfOk result HasDepth }
     ensures once { IfOk result (λ line. ReadsInputOnce (meaning_of line)) }
     ensures lends { IfOk result (λ line. LendsToParts (meaning_of line)) }
+    ensures apart { IfOk result (λ line. KeepsOutputApart (meaning_of line)) }
     ensures compares { IfOk result (λ line. ComparesSomething (meaning_of line)) }
     ensures taken { OnOk result (AreTaken (texts words.entry.now)) }
     ensures fault { IfErr result (Explains (texts words.entry.now)) }
@@ -214,6 +221,9 @@ pub fn line_of<'a>(alloc: Global, words: &'a [&'a str]) -> Result<Line<'a>, Line
     }
     if lends_to_a_whole(&line) {
         return Err(LineFault::NoSegments);
+    }
+    if mixes_output(&line) {
+        return Err(LineFault::OutputTwice);
     }
     if compares_nothing(&line) {
         return Err(LineFault::NoCapture);
@@ -261,6 +271,50 @@ fn lends_to_a_whole(line: &Line<'_>) -> bool
             ..
         } => digests.is_some() && segments.is_none(),
         _ => false,
+    }
+}
+
+/// Whether something is printed of a run besides its outputs.
+pub(crate) fn is_printing(line: &Line<'_>) -> bool
+    ensures { result ≡ is_printing (meaning_of line.now) }
+{
+    match line {
+        Line::Run {
+            tables,
+            tables_at,
+            why,
+            summary,
+            talkers,
+            ..
+        } => *tables || tables_at.is_some() || !why.is_empty() || *summary || *talkers,
+        _ => false,
+    }
+}
+
+/// The file of the view of a run, where there is one.
+pub(crate) fn view_of<'a>(line: &Line<'a>) -> Option<&'a str>
+    ensures { option_map (λ t. t.now) result ≡ view_of (meaning_of line.now) }
+{
+    match line {
+        Line::Run { pcapng, .. } => *pcapng,
+        _ => None,
+    }
+}
+
+/// Whether the view of a run goes to standard output, and something else is printed there.
+fn mixes_output(line: &Line<'_>) -> bool
+    ensures { result ≡ mixes_output (meaning_of line.now) }
+{
+    is_printing(line) && is_output(view_of(line))
+}
+
+/// Whether a file is standard output.
+fn is_output(file: Option<&str>) -> bool
+    ensures { result ≡ is_output (option_map (λ t. t.now) file.entry) }
+{
+    match file {
+        Some(name) => name == STANDARD_OUTPUT,
+        None => false,
     }
 }
 

@@ -131,6 +131,7 @@ fn run_from<'a>(alloc: Global, inner: &ArgMatches<'a>) -> Result<Line<'a>, LineF
         within: text(inner, "within"),
         json: is_set(inner, "json"),
         quiet: is_set(inner, "quiet"),
+        pcapng: text(inner, "pcapng"),
     })
 }
 

@@ -4,10 +4,10 @@
 use Rattle.std.specs.Prelude.{◌≡◌, ℕ, List, Option, None, Some, Ok}
 use Rattle.clap.specs.Words.{Text}
 use Rattle.timeline.specs.declared.source.Tap.{Tap}
-use Rattle.program_faults.specs.declared.decisions_fault.DecisionsFault.{DecisionsFault}
-use Rattle.program_faults.specs.declared.decisions_fault.DecisionsFault.TheVariants as told
-use Rattle.program_faults.specs.declared.failure.Failure.{Failure}
-use Rattle.program_faults.specs.declared.failure.Failure.TheVariants as failures
+use Rattle.program_files.specs.declared.faults.decisions_fault.DecisionsFault.{DecisionsFault}
+use Rattle.program_files.specs.declared.faults.decisions_fault.DecisionsFault.TheVariants as told
+use Rattle.program_files.specs.declared.faults.failure.Failure.{Failure}
+use Rattle.program_files.specs.declared.faults.failure.Failure.TheVariants as failures
 use Rattle.capture_compare.specs.declared.fault.CompareFault.{CompareFault}
 use Rattle.capture_compare.specs.declared.fault.CompareFault.TheVariants as compared
 use Rattle.capture_compare.specs.declared.fault.Side.{Side}

@@ -1,7 +1,7 @@
 //! Two captures that are open, compared and told.
 ghost use Rattle.std.specs.Prelude.{◌≡◌, ◌≤◌, ◌<◌, ◌^◌, if◌then◌else◌, Err, Ok};
 ghost use Rattle.pcap.specs.Source.{New, most_left};
-ghost use Rattle.program_faults.specs.declared.failure.Failure.TheVariants as failures;
+ghost use Rattle.program_files.specs.declared.faults.failure.Failure.TheVariants as failures;
 ghost use Rattle.capture_compare.specs.Counts.{is_same};
 ghost use Rattle.compare_on_files.specs.Asking.{IsFailure, IsUnread, told_at};
 
@@ -10,8 +10,7 @@ use capture_compare::carried::Manner;
 use capture_compare::lines::Counts;
 use capture_compare::{CompareFault, Side};
 use compare_reports::{Asked, Report, Segments, Unfinished, compare_open};
-use program_faults::Failure;
-use program_files::SeenCapture;
+use program_files::{Failure, SeenCapture};
 use std::io::Read;
 use timeline::Tap;
 

@@ -5,8 +5,10 @@ ghost use Rattle.compare_on_files.specs.Finding.{IsFound, StandsIn};
 
 use crate::events::{EventFault, RecordEvents};
 use compare_reports::Printer;
-use program_faults::{DecisionsFault, Failure, OutputFile, WorkedFailure};
-use program_files::{PartFile, Shown, open_part_file, print_shown};
+use program_files::{
+    DecisionsFault, Failure, OutputFile, PartFile, Shown, WorkedFailure, open_part_file,
+    print_shown,
+};
 use std::alloc::Global;
 use std::io::Read;
 use std::rt::Files;

@@ -14,8 +14,9 @@ use capture_run::of_settings;
 use command_line::NO_CAPTURE;
 use compare_reports::{Asked, Printer, Segments, print_told};
 use overlay_config::settings_of;
-use program_faults::{Failure, OutputFile, WorkedFailure};
-use program_files::{Shown, open_seen, open_written, path_of, read_file};
+use program_files::{
+    Failure, OutputFile, Shown, WorkedFailure, open_seen, open_written, path_of, read_file,
+};
 use std::alloc::AllocError;
 use std::io::Input;
 use std::rt::Files;
@@ -170,31 +171,69 @@ fn compare_place<'a, R: Files + Input + AllocGlobal + Print>(
     requires sent { told.clock.sent_delay ≤ 2000000000000000000 }
     requires received { told.clock.received_delay ≤ 2000000000000000000 }
 {
-    let mut output: StandardOutput<'_, 'a, R, R::File> = StandardOutput::new(rt, asked.shown);
     if place.seen == NO_CAPTURE {
-        print_told(&mut output, &NoCapture(place.tap))?;
+        tell_no_capture(rt, asked, place.tap)?;
         return Ok((segments, Counts::none()));
-    }
-    let mut worked = open_written(rt, asked.folder, place.output)?;
-    let (_, mut seen) = open_seen(rt, place.seen)?;
-    if told.lists {
-        output = open_output(rt, asked.shown, asked.folder, place.tap)?;
     }
     let mut segments = segments;
     segments.stand_at(place.tap, manner);
+    compare_seen(rt, asked, place, manner, told.at(place.tap), segments)
+}
+
+/// Tells that there is no capture of a place.
+fn tell_no_capture<'a, R: Files + Input + AllocGlobal + Print>(
+    rt: &R,
+    asked: Worked<'_, 'a>,
+    tap: Tap,
+) -> Result<(), Failure<'a>> {
+    let mut output: StandardOutput<'_, 'a, R, R::File> = StandardOutput::new(rt, asked.shown);
+    print_told(&mut output, &NoCapture(tap))
+}
+
+/// Compares the captures of a place at which the segments stand.
+fn compare_seen<'a, R: Files + Input + AllocGlobal + Print>(
+    rt: &R,
+    asked: Worked<'_, 'a>,
+    place: Place<'a>,
+    manner: &Manner,
+    told: Asked,
+    segments: Segments,
+) -> Result<(Segments, Counts), Failure<'a>>
+    requires sent { told.clock.sent_delay ≤ 2000000000000000000 }
+    requires received { told.clock.received_delay ≤ 2000000000000000000 }
+{
+    let mut worked = open_written(rt, asked.folder, place.output)?;
+    let (_, mut seen) = open_seen(rt, place.seen)?;
+    let output = output_at(rt, asked, place.tap, told.lists)?;
     let names = Names {
         sent: asked.folder,
         received: place.seen,
     };
-    let (_, segments, counts) = compare_lent(
-        told.at(place.tap),
+    match compare_lent(
+        told,
         manner,
         names,
         &mut worked,
         &mut seen,
         (output, segments),
-    )?;
-    Ok((segments, counts))
+    ) {
+        Ok((_, segments, counts)) => Ok((segments, counts)),
+        Err(failure) => Err(failure),
+    }
+}
+
+/// Where a place is told: with the numbers of its records' events where they are listed.
+fn output_at<'r, 'a, R: Files + Input + AllocGlobal + Print>(
+    rt: &'r R,
+    asked: Worked<'_, 'a>,
+    tap: Tap,
+    lists: bool,
+) -> Result<StandardOutput<'r, 'a, R, R::File>, Failure<'a>> {
+    if lists {
+        open_output(rt, asked.shown, asked.folder, tap)
+    } else {
+        Ok(StandardOutput::new(rt, asked.shown))
+    }
 }
 
 /// The tap of the port behind so many others; that of port 255 behind 254 and more.

@@ -1,5 +1,5 @@
 -- Two captures, compared, and what is told at the end.
-use Rattle.std.proofs.Common.{◌≡◌, ◌∙◌, refl, sym, ap, subst, ℕ, List, ◌++◌, Option, Some, Result}
+use Rattle.std.proofs.Common.{◌≡◌, refl, sym, subst, ℕ, List, Some, Result}
 use Rattle.std.specs.List.{FoldsTo}
 use Rattle.pcap.specs.Source.{Stream}
 use Rattle.record_match.specs.Compared.{Counted}

@@ -1,6 +1,5 @@
 mod Comparing
-mod Listing
+mod Doubling
 mod Ordering
 mod Printing
 mod Shifting
-mod Showing

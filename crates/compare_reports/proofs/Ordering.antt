@@ -1,5 +1,5 @@
 -- Pairs that are behind another.
-use Rattle.std.proofs.Common.{◌≡◌, ℕ, ◌+◌, ◌-◌, ◌^◌, ◌<◌, ◌≤◌, max, min, nat_lt, Bool, true, false, ◌||◌, if◌then◌else◌, List, [], ◌∷◌, refl, sym, ap, ◌∙◌, subst, arith}
+use Rattle.std.proofs.Common.{◌≡◌, ℕ, ◌+◌, ◌-◌, ◌^◌, ◌≤◌, max, min, nat_lt, Bool, true, false, ◌||◌, if◌then◌else◌, List, [], ◌∷◌, refl, sym, ap, ◌∙◌, subst, arith}
 use Rattle.std.proofs.lemmas.Bool.{lt-ltb, ltb-false, ltb-true, le-ltb}
 use Rattle.std.specs.List.{FoldsTo}
 use Rattle.record_match.specs.Lengths.{one_more}
@@ -30,12 +30,12 @@ counts-one front (ReceivedAlone n r) o h = refl
 counts-one front (SentAlone n r) o h = refl
 
 -- one more where something is so, up to the greatest number
-more-if : (q : Bool) (count so_far others final : ℕ) → count ≡ (if q then one_more so_far else so_far) → final ≡ min (count + others) (2 ^ 64 - 1)
+pub more-if : (q : Bool) (count so_far others final : ℕ) → count ≡ (if q then one_more so_far else so_far) → final ≡ min (count + others) (2 ^ 64 - 1)
     → so_far ≤ 2 ^ 64 - 1 → final ≡ min (so_far + ((if q then 1 else 0) + others)) (2 ^ 64 - 1)
 more-if true count so_far others final e f few = omega (arith, e, f, few)
 more-if false count so_far others final e f few = omega (arith, e, f, few)
 
-fits-if : (q : Bool) (count so_far : ℕ) → count ≡ (if q then one_more so_far else so_far) → so_far ≤ 2 ^ 64 - 1 → count ≤ 2 ^ 64 - 1
+pub fits-if : (q : Bool) (count so_far : ℕ) → count ≡ (if q then one_more so_far else so_far) → so_far ≤ 2 ^ 64 - 1 → count ≤ 2 ^ 64 - 1
 fits-if true count so_far e few = omega (arith, e, few)
 fits-if false count so_far e few = omega (arith, e, few)
 

@@ -1,5 +1,5 @@
 -- Texts that are printed one behind another.
-use Rattle.std.proofs.Common.{◌≡◌, ◌∙◌, refl, sym, ap, subst, ℕ, zero, suc, ◌+◌, ◌-◌, ◌<◌, ◌≤◌, List, [], ◌∷◌, ◌++◌, length, take, get_or, arith, Bool, true, false, Option, Some, None, Result, Ok, Err}
+use Rattle.std.proofs.Common.{◌≡◌, ◌∙◌, refl, sym, ap, subst, ℕ, zero, suc, ◌+◌, ◌-◌, ◌<◌, ◌≤◌, List, [], ◌∷◌, ◌++◌, length, map, take, get_or, arith, Bool, true, false, Option, Some, None, Result, Ok, Err}
 use Rattle.std.specs.Prelude.{IfSome, OnOk, SomeIff}
 use Rattle.std.specs.List.{FoldsTo}
 use Rattle.wire.specs.Tag.{IsVid}
@@ -7,12 +7,13 @@ use Rattle.timeline.specs.declared.source.Tap.{Tap}
 use Rattle.record_match.specs.declared.tables.lengths.LengthRow.{LengthRow}
 use Rattle.capture_compare.specs.declared.lines.counts.Counts.{Counts}
 use Rattle.capture_compare.specs.declared.lines.counts.Scope.TheVariants as scopes
+use Rattle.capture_compare.specs.declared.lonely.pairs.DifferenceRow.{DifferenceRow}
 use Rattle.record_match.specs.Delays.{Delays, IsOf}
 use Rattle.record_match.specs.declared.tables.delays.DelaySummary.{DelaySummary}
 use Rattle.capture_compare.specs.Tables.{delays_text}
 use Rattle.capture_compare.specs.Counting.{row_at}
 use Rattle.compare_reports.specs.Prints.{Prints, unless}
-use Rattle.compare_reports.specs.Told.{IsSummed, PrintsDelays, length_text, length_texts, first_texts, row_text}
+use Rattle.compare_reports.specs.Told.{IsSummed, PrintsDelays, difference_text, length_text, length_texts, first_texts, row_text}
 
 module _ {P : Type 0} (prints : P → Option (List ℕ) → P → Type 0) where
   -- one text more
@@ -49,6 +50,16 @@ first-more rows (suc n) h =
     let behind : suc n + 1 - 1 ≡ suc n = omega arith in
     let before : n ≡ suc n - 1 = omega arith in
     ap (λ (m : ℕ). first_texts m rows) behind ∙ ap (λ (m : ℕ). first_texts m rows ++ row_text (scopes.Segment (suc n)) (row_at rows (Some (suc n))) ∷ []) before
+
+-- the line of one row more
+pub rows-first : (at : Option Tap) (n : ℕ) (rows : List DifferenceRow) (d : DifferenceRow) → n < length rows
+    → map (difference_text at) (take (n + 1) rows) ≡ map (difference_text at) (take n rows) ++ difference_text at (get_or rows n d) ∷ []
+rows-first at n [] d h = absurd (omega (arith, h))
+rows-first at zero (r ∷ rs) d h = refl
+rows-first at (suc n) (r ∷ rs) d h =
+    let next : suc n + 1 ≡ suc (n + 1) = omega arith in
+    ap (λ (m : ℕ). map (difference_text at) (take m (r ∷ rs))) next
+    ∙ ap (λ (t : List (Option (List ℕ))). difference_text at r ∷ t) (rows-first at n rs d (omega (arith, h)))
 
 -- ---- one text
 

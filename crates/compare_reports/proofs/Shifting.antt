@@ -1,5 +1,5 @@
 -- Words for a shift, and the clocks that they ask for.
-use Rattle.std.proofs.Common.{◌≡◌, ◌≢◌, ◌≤◌, ◌∙◌, refl, sym, ap, subst, ℕ, ◌+◌, Bool, true, false, List, [], ◌∷◌, Option, Some, None}
+use Rattle.std.proofs.Common.{◌≡◌, subst, ℕ, ◌+◌, Bool, true, false, List, ◌∷◌, Option, Some, None}
 use Rattle.std.specs.Prelude.{IsSomeAnd, MatchOption}
 use Rattle.record_match.specs.Clock.{IsNear}
 use Rattle.record_match.specs.Match.{is_within}

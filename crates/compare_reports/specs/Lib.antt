@@ -1,3 +1,4 @@
+pub mod Doubled
 pub mod Outcome
 pub mod Printed
 pub mod Prints

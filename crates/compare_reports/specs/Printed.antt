@@ -1,8 +1,8 @@
 -- What is printed of two captures, or of a place. It states no standard.
 --     behind_in     how many pairs were sent before one that was received in front of them
 --     behind_text   the line that tells it
---     place_text    the counts, what is cut, what came in another order, and what was left aside
-use Rattle.std.specs.Prelude.{◌≡◌, ℕ, ◌==◌, ◌+◌, ◌-◌, ◌^◌, ◌||◌, max, min, nat_lt, if◌then◌else◌, Bool, true, false}
+--     place_text    the counts, what came again, what is cut, what came in another order, and what was left aside
+use Rattle.std.specs.Prelude.{◌≡◌, ℕ, ◌==◌, ◌+◌, ◌-◌, ◌^◌, ◌||◌, max, min, nat_lt, if◌then◌else◌, Bool, false}
 use Rattle.std.specs.Prelude.{List, [], ◌∷◌, ◌++◌, codes, decimal, Option, Some, None}
 use Rattle.std.specs.List.{FoldsTo}
 use Rattle.timeline.specs.declared.source.Tap.{Tap}
@@ -15,6 +15,7 @@ use Rattle.capture_compare.specs.Tables.{place_words}
 use Rattle.capture_compare.specs.declared.aside.Aside.{Aside}
 use Rattle.capture_compare.specs.declared.lines.counts.Scope.{Scope}
 use Rattle.capture_compare.specs.declared.lines.counts.Scope.TheVariants as scopes
+use Rattle.compare_reports.specs.Doubled.{doubled_text}
 use Rattle.compare_reports.specs.declared.order.Order.{Order}
 use Rattle.compare_reports.specs.declared.place_lines.PlaceLines.{PlaceLines}
 
@@ -80,7 +81,11 @@ abbrev pub aside_part : Option Tap → Option Aside → List ℕ
 aside_part at None = []
 aside_part at (Some aside) = aside_text at aside
 
--- the lines behind what is listed, in front of a table
+-- the lines behind what is listed, in front of what differs and of a table
 unfoldable pub place_text : PlaceLines → List ℕ
 place_text p =
-    counts_text (scope_at p.at) p.counts ++ cut_text p.at p.cut ++ behind_text p.at p.behind ++ aside_part p.at p.aside
+    counts_text (scope_at p.at) p.counts
+    ++ doubled_text p.at p.doubled
+    ++ cut_text p.at p.cut
+    ++ behind_text p.at p.behind
+    ++ aside_part p.at p.aside

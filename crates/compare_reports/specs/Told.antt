@@ -3,10 +3,11 @@
 --     PrintsTable      what a table prints
 --     segments_with    records by their segments, once a fact was told
 --     segments_texts   the lines that they print
-use Rattle.std.specs.Prelude.{◌≡◌, ◌<◌, ◌==◌, ◌&&◌, ◌||◌, ◌^◌, ℕ, ◌+◌, if◌then◌else◌, Bool, true, false, codes, length, zero, suc}
+--     differences_texts   those of what of near records differs
+use Rattle.std.specs.Prelude.{◌≡◌, ◌<◌, ◌==◌, ◌&&◌, ◌||◌, ◌^◌, ℕ, ◌+◌, if◌then◌else◌, Bool, true, codes, length, zero, suc}
 use Rattle.std.specs.Str.{bytes_eq}
 use Rattle.clap.specs.Words.{Text}
-use Rattle.std.specs.Prelude.{List, [], ◌∷◌, ◌++◌, Option, None, Some, option_map, replicate, IsSomeAnd}
+use Rattle.std.specs.Prelude.{List, [], ◌∷◌, ◌++◌, map, Option, None, Some, option_map, replicate, IsSomeAnd}
 use Rattle.std.specs.List.{FoldsTo}
 use Rattle.timeline.specs.declared.source.Tap.{Tap}
 use Rattle.timeline.specs.declared.source.Tap.TheVariants as taps
@@ -18,6 +19,8 @@ use Rattle.record_match.specs.declared.tables.lengths.LengthRow.{LengthRow}
 use Rattle.overlay.specs.Settings.{Settings}
 use Rattle.capture_compare.specs.Counting.{row_at, with_fact}
 use Rattle.capture_compare.specs.Counts.{counts_text, is_none, no_counts}
+use Rattle.capture_compare.specs.Differing.{Counted, Differing}
+use Rattle.capture_compare.specs.Lonely.{difference_line, others_line}
 use Rattle.capture_compare.specs.Segments.{index_of, tunnels_of}
 use Rattle.capture_compare.specs.Tables.{delays_text, length_line}
 use Rattle.capture_compare.specs.declared.lines.counts.Counts.{Counts}
@@ -26,6 +29,7 @@ use Rattle.capture_compare.specs.declared.lines.counts.Scope.TheVariants as scop
 use Rattle.capture_compare.specs.declared.carried.tunnels.Tunnels.{Tunnels}
 use Rattle.capture_compare.specs.declared.carried.key.Sameness.{Sameness}
 use Rattle.capture_compare.specs.declared.carried.key.Sameness.TheVariants.{Carried, Whole}
+use Rattle.capture_compare.specs.declared.lonely.pairs.DifferenceRow.{DifferenceRow}
 use Rattle.capture_compare.specs.declared.segments.reading.PlaceReading.{PlaceReading}
 use Rattle.capture_compare.specs.declared.segments.reading.PlaceReading.TheVariants as readings
 use Rattle.capture_compare.specs.declared.segments.counting.SegmentCounts.{SegmentCounts}
@@ -43,12 +47,6 @@ abbrev pub no_table : Option TableBy → ℕ → ℕ → Table
 no_table None within ahead = tables.None
 no_table (Some names.Length) within ahead = tables.Length (replicate 262657 no_row)
 no_table (Some names.Delay) within ahead = tables.Delay (no_delays within) ahead
-
--- none is
-abbrev pub is_no_table : Table → Bool
-is_no_table tables.None = true
-is_no_table (tables.Length rows) = false
-is_no_table (tables.Delay delays ahead) = false
 
 -- a table has this name
 abbrev pub is_table_name : Text → Bool
@@ -149,3 +147,17 @@ rows_texts rows = first_texts 4094 rows ++ row_text scopes.NoSegment (row_at row
 -- where settings say which there are
 abbrev pub segments_texts : Segments → List (Option (List ℕ))
 segments_texts s = elim s.counts [ Some c ↦ rows_texts c.rows | None ↦ [] ]
+
+-- ---- what of near records differs
+
+abbrev pub difference_text : Option Tap → DifferenceRow → Option (List ℕ)
+difference_text at row = Some (difference_line at row)
+
+-- a line for each segment and difference, and one for all others, where there are any
+abbrev pub counted_texts : Option Tap → Counted → List (Option (List ℕ))
+counted_texts at c = map (difference_text at) c.rows ++ unless (c.others == 0) (others_line at c.others) ∷ []
+
+-- where they are looked for
+abbrev pub differences_texts : Option Tap → Option Differing → List (Option (List ℕ))
+differences_texts at None = []
+differences_texts at (Some d) = counted_texts at d.counted

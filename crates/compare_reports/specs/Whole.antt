@@ -3,6 +3,7 @@
 --     IsPrinted    they were printed, and the table behind them
 --     IsWhole      all that is told of two captures
 use Rattle.std.specs.Prelude.{◌≡◌, ℕ, not, if◌then◌else◌, List, Option, None, Some, Ok}
+use Rattle.std.specs.List.{FoldsTo}
 use Rattle.timeline.specs.declared.source.Tap.{Tap}
 use Rattle.pcap.specs.Source.{Stream, ends_cut}
 use Rattle.record_match.specs.Settled.{Shows}
@@ -17,14 +18,21 @@ use Rattle.compare_reports.specs.Outcome.{IsOutcome}
 use Rattle.compare_reports.specs.Printed.{place_text}
 use Rattle.compare_reports.specs.Prints.{Prints, unless}
 use Rattle.compare_reports.specs.Reported.{IsReported}
-use Rattle.compare_reports.specs.Told.{PrintsTable}
+use Rattle.compare_reports.specs.Told.{PrintsTable, differences_texts}
 use Rattle.compare_reports.specs.declared.paired.Outcome.{Outcome}
 use Rattle.compare_reports.specs.declared.place_lines.PlaceLines.{PlaceLines}
 use Rattle.compare_reports.specs.declared.report.Report.{Report}
 
--- the lines of what was counted, where so many are behind another
-abbrev pub lines_of : Option Tap → Outcome → ℕ → Option Aside → PlaceLines
-lines_of at o behind aside = record { at = at; counts = o.counts; cut = o.cut; behind = behind; aside = aside }
+-- the lines of what was counted, where so many came again, and so many are behind another
+abbrev pub lines_of : Option Tap → Outcome → ℕ → ℕ → Option Aside → PlaceLines
+lines_of at o doubled behind aside = record {
+  at = at;
+  counts = o.counts;
+  doubled = doubled;
+  cut = o.cut;
+  behind = behind;
+  aside = aside;
+}
 
 -- how many were left aside, where some may be
 abbrev pub aside_of : Manner → Outcome → Option Aside
@@ -42,12 +50,15 @@ module _ {P : Type 0} (prints : P → List ℕ → P → Type 0) where
     pub of_received : Prints prints middle (end_text at sides.Received received) new
 
 module _ {P E : Type 0} (prints : P → List ℕ → P → Type 0) where
-  -- each line of a list had been printed, and then those of a place were, and those of its table
+  -- each record that is of one capture alone had been told, and then the lines of a place were printed, and behind them what of near
+  -- ones differs, and its table
   pub record IsPrinted (old : Report P E) (lines : PlaceLines) (new : Report P E) : Type 0 where
     pub middle : P
-    pub all_listed : old.failure ≡ None
+    pub behind : P
+    pub all_told : old.failure ≡ None
     pub place : prints old.printer (place_text lines) middle
-    pub table : PrintsTable prints lines.at old.table middle new.printer
+    pub differences : FoldsTo (Prints prints) middle (differences_texts lines.at old.differences) behind
+    pub table : PrintsTable prints lines.at old.table behind new.printer
 
 module _ {P E : Type 0} (prints : P → List ℕ → P → Type 0) (finds : P → ℕ → Option ℕ → P → Type 0) where
   -- a report was told what became of each record of two captures, of which this was counted
@@ -58,7 +69,8 @@ module _ {P E : Type 0} (prints : P → List ℕ → P → Type 0) (finds : P �
       → IsOutcome manner clock sent_text received_text log outcome)
 
   -- two captures, which stood so before and stand so behind, were compared to their ends, the report was told what became of each
-  -- record, and its lines were printed: those of what was counted, of the table, and of captures that end within a record
+  -- record, and its lines were printed: those of what was counted, of what of near ones differs, of the table, and of captures that
+  -- end within a record
   pub record IsWhole (manner : Manner) (sent received sent_end received_end : Stream) (old new : Report P E) (counts : Counts) : Type 0
     where
       pub told : Report P E
@@ -67,5 +79,5 @@ module _ {P E : Type 0} (prints : P → List ℕ → P → Type 0) (finds : P �
       pub shown : IsShown manner old.asked.clock sent received outcome old told
       pub ended : outcome.end ≡ Ok tt
       pub counts_are : counts ≡ outcome.counts
-      pub lines : IsPrinted prints told (lines_of old.asked.at outcome told.order.behind (aside_of manner outcome)) printed
+      pub lines : IsPrinted prints told (lines_of old.asked.at outcome told.recent.doubled told.order.behind (aside_of manner outcome)) printed
       pub ends : PrintsEnds prints old.asked.at sent_end received_end printed.printer new.printer

@@ -4,6 +4,7 @@ ghost use Rattle.pcap.specs.Source.{New, most_left};
 ghost use Rattle.compare_reports.specs.Whole.{IsPrinted, IsShown, IsWhole, PrintsEnds, aside_of, lines_of};
 
 use crate::cut::print_cut_end;
+use crate::differing::print_differences;
 use crate::paired::{Outcome, compare_pair};
 use crate::place_lines::PlaceLines;
 use crate::printer::{Printer, print_told};
@@ -46,7 +47,9 @@ pub fn compare_open<P: Printer + Drop, R: Input>(
         Ok(outcome) => outcome,
         Err(error) => return Err(Unfinished::Told(P::Fault::from(error))),
     };
-    let lines = lines_of(at, outcome, report.order.behind, aside_of(manner, outcome));
+    let aside = aside_of(manner, outcome);
+    let doubled = report.recent.doubled();
+    let lines = lines_of(at, outcome, doubled, report.order.behind, aside);
     let printed = print_outcome(report, &lines);
     if let Err(fault) = outcome.end {
         return Err(Unfinished::Captures(fault));
@@ -60,8 +63,7 @@ pub fn compare_open<P: Printer + Drop, R: Input>(
     Ok(outcome.counts)
 }
 
-/// Compares two captures of which nothing was read, and shows it to a report: to what tells the order alone, where that tells nothing
-/// else.
+/// Compares two captures of which nothing was read, and shows it to a report.
 fn compare_shown<P: Printer + Drop, R: Input>(
     manner: &Manner,
     sent: &mut Source<R>,
@@ -79,9 +81,6 @@ fn compare_shown<P: Printer + Drop, R: Input>(
 {
     let alloc = report.printer.alloc();
     let clock = report.asked.clock;
-    if report.is_silent() {
-        return compare_pair(alloc, clock, manner, sent, received, &mut report.order);
-    }
     compare_pair(alloc, clock, manner, sent, received, report)
 }
 
@@ -97,19 +96,27 @@ fn aside_of(manner: &Manner, outcome: Outcome) -> Option<Aside>
 }
 
 /// The lines of what was counted.
-fn lines_of(at: Option<Tap>, outcome: Outcome, behind: u64, aside: Option<Aside>) -> PlaceLines
-    ensures { result ≡ lines_of at outcome behind aside }
+fn lines_of(
+    at: Option<Tap>,
+    outcome: Outcome,
+    doubled: u64,
+    behind: u64,
+    aside: Option<Aside>,
+) -> PlaceLines
+    ensures { result ≡ lines_of at outcome doubled behind aside }
 {
     PlaceLines {
         at,
         counts: outcome.counts,
+        doubled,
         cut: outcome.cut,
         behind,
         aside,
     }
 }
 
-/// Prints the lines of a place, and behind them its table. Where a line of the list couldn't be printed, that is the fault.
+/// Prints the lines of a place, and behind them what of near records differs and its table. Where a record that is of one capture
+/// alone couldn't be told, that is the fault.
 fn print_outcome<P: Printer + Drop>(
     report: &mut Report<P>,
     lines: &PlaceLines,
@@ -120,6 +127,9 @@ fn print_outcome<P: Printer + Drop>(
         return Err(fault);
     }
     if let Some(fault) = report.take_failure() {
+        return Err(fault);
+    }
+    if let Err(fault) = print_differences(&mut report.printer, lines.at, &report.differences) {
         return Err(fault);
     }
     report.table.print(&mut report.printer, lines.at)

@@ -1,6 +1,7 @@
 //! The lines of two captures, or of a place, behind what is listed.
 ghost use Rattle.std.specs.Prelude.{◌≡◌, Some};
 ghost use Rattle.capture_compare.specs.Tables.{place_words};
+ghost use Rattle.compare_reports.specs.Doubled.{doubled_text, doubled_words};
 ghost use Rattle.compare_reports.specs.Printed.{aside_part, behind_text, behind_words, place_text, scope_at};
 
 use capture_compare::Aside;
@@ -9,12 +10,15 @@ use record_match::Cut;
 use std::fmt;
 use timeline::Tap;
 
-/// The counts of two captures, or of a place, and behind them what is cut, what came in another order, and what was left aside.
+/// The counts of two captures, or of a place, and behind them what came again, what is cut, what came in another order, and what was
+/// left aside.
 #[derive(Clone, Copy)]
 pub(crate) struct PlaceLines {
     /// The place, where it is one of several.
     pub(crate) at: Option<Tap>,
     pub(crate) counts: Counts,
+    /// How many of those that were received alone came again.
+    pub(crate) doubled: u64,
     /// How many records are cut.
     pub(crate) cut: Cut,
     /// How many of those that are both were sent before one that was received in front of them.
@@ -32,6 +36,10 @@ impl fmt::Display for PlaceLines {
             scope: scope_at(self.at),
             counts: self.counts,
         };
+        let doubled = DoubledLine {
+            at: self.at,
+            count: self.doubled,
+        };
         let cut = CutLine {
             at: self.at,
             cut: self.cut,
@@ -44,7 +52,7 @@ impl fmt::Display for PlaceLines {
             at: self.at,
             aside: self.aside,
         };
-        write!(f, "{counts}{cut}{behind}{aside}")
+        write!(f, "{counts}{doubled}{cut}{behind}{aside}")
     }
 }
 
@@ -55,6 +63,41 @@ fn scope_at(at: Option<Tap>) -> Scope
     match at {
         None => Scope::Pair,
         Some(tap) => Scope::Place(tap),
+    }
+}
+
+/// How many records came again; where none did, it prints as nothing.
+#[derive(Clone, Copy)]
+struct DoubledLine {
+    at: Option<Tap>,
+    count: u64,
+}
+
+impl fmt::Display for DoubledLine {
+    ghost output = { λ line. Some (doubled_text line.at line.count) };
+
+    fn fmt<W: fmt::Write>(&self, f: &mut fmt::Formatter<W>) -> fmt::Result {
+        if self.count == 0 {
+            Ok(())
+        } else {
+            let at = AtPlace(self.at);
+            let words = DoubledWords(self.count);
+            write!(f, "{at}{words}")
+        }
+    }
+}
+
+/// How many they are.
+#[derive(Clone, Copy)]
+struct DoubledWords(u64);
+
+impl fmt::Display for DoubledWords {
+    ghost output = { λ words. Some (doubled_words words.0) };
+
+    #[tactic(auto, unfolding(crate::specs::Doubled::doubled_words))]
+    fn fmt<W: fmt::Write>(&self, f: &mut fmt::Formatter<W>) -> fmt::Result {
+        let count = self.0;
+        write!(f, "doubled {count}\n")
     }
 }
 

@@ -1,21 +1,24 @@
 //! What is told of captures besides counts, while they are compared.
-ghost use Rattle.std.specs.Prelude.{◌≡◌, IfOk, None, OnOk, is_none, ◌&&◌, not};
+ghost use Rattle.std.specs.Prelude.{◌≡◌, IfNone, IfOk, None, OnOk};
 ghost use Rattle.record_match.specs.Kept.{told};
+ghost use Rattle.compare_reports.specs.Doubled.{no_recent, with_both};
 ghost use Rattle.compare_reports.specs.Printed.{no_order};
-ghost use Rattle.compare_reports.specs.Reported.{IsListed, IsNamed, IsOfEvent, IsReported, IsTold, Lists, lonely_of, reading_of};
-ghost use Rattle.compare_reports.specs.Told.{is_no_table, no_table};
+ghost use Rattle.compare_reports.specs.Reported.{IsListed, IsOfEvent, IsReported, IsTold, Tells, difference_in, differences_asked};
+ghost use Rattle.compare_reports.specs.Reported.{differences_with, lonely_of, reading_of, segment_in};
+ghost use Rattle.compare_reports.specs.Told.{no_table};
 
 use crate::asked::Asked;
 use crate::order::Order;
 use crate::printer::{Printer, print_told};
+use crate::recent::Recent;
 use crate::segments::Segments;
 use crate::tables::Table;
 use capture_compare::Side;
 use capture_compare::carried::{Manner, Sameness};
 use capture_compare::lines::{Lonely, LonelyLine};
-use capture_compare::lonely::{Difference, LonelySeen, Reading, RecordSegment, segment_of};
+use capture_compare::lonely::{Difference, Differences, Reading, RecordSegment, segment_of};
 use record_match::{Onlooker, Seen};
-use std::alloc::AllocError;
+use std::alloc::{AllocError, Global};
 
 /// What is told of the captures of one place, or of two that stand for themselves: the list while they are compared, and the
 /// table behind.
@@ -23,15 +26,16 @@ use std::alloc::AllocError;
 pub struct Report<P: Printer + Drop> {
     pub(crate) printer: P,
     pub(crate) asked: Asked,
-    reading: Reading,
     pub(crate) table: Table,
     /// Who counts each record with its segment.
     segments: Segments,
     /// Which records came in another order.
     pub(crate) order: Order,
-    /// What was received alone, where what is listed is of a run.
-    held: Option<LonelySeen>,
-    /// Why a line couldn't be printed, of the first that couldn't.
+    /// Which records were received again.
+    pub(crate) recent: Recent,
+    /// What of records that are of one capture alone and near another differs, at a place.
+    pub(crate) differences: Option<Differences>,
+    /// Why a record couldn't be told, of the first that couldn't.
     failure: Option<P::Fault>,
 }
 
@@ -45,43 +49,34 @@ impl<P: Printer + Drop> Report<P> {
     ) -> Result<Report<P>, AllocError>
         ensures printer { IfOk result (λ report. report.printer ≡ printer) }
         ensures asked { IfOk result (λ report. report.asked ≡ asked) }
-        ensures reading { IfOk result (λ report. report.reading ≡ reading_of manner.now.sameness) }
         ensures table { IfOk result (λ report. report.table ≡ no_table asked.table asked.clock.within asked.ahead) }
         ensures segments { IfOk result (λ report. report.segments ≡ segments) }
         ensures order { IfOk result (λ report. report.order ≡ no_order) }
+        ensures recent { IfOk result (λ report. report.recent ≡ no_recent) }
+        ensures differences { IfOk result (λ report. report.differences ≡ differences_asked asked (reading_of manner.now.sameness)) }
         ensures failure { IfOk result (λ report. report.failure ≡ None) }
     {
         let alloc = printer.alloc();
         let table = Table::new(alloc, asked.table, asked.clock, asked.ahead)?;
-        let held = if asked.lists && asked.at.is_some() {
-            Some(LonelySeen::new(alloc)?)
-        } else {
-            None
-        };
+        let differences = differences_asked(alloc, asked, reading_of(manner))?;
         Ok(Report {
             printer,
             asked,
-            reading: reading_of(manner),
             table,
             segments,
             order: Order::none(),
-            held,
+            recent: Recent::new(alloc),
+            differences,
             failure: None,
         })
     }
 
-    /// Whether it tells nothing but the order.
-    pub(crate) fn is_silent(&self) -> bool
-        ensures { result ≡ ((not self.now.asked.lists && is_no_table self.now.table) && is_none self.now.segments.counts) }
-    {
-        !self.asked.lists && self.table.is_none() && self.segments.is_none()
-    }
-
-    /// Why a line couldn't be printed, of the first that couldn't.
+    /// Why a record couldn't be told, of the first that couldn't.
     pub(crate) fn take_failure(&mut self) -> Option<P::Fault>
         ensures taken { result ≡ self.old.failure }
         ensures printer { self.new.printer ≡ self.old.printer }
         ensures table { self.new.table ≡ self.old.table }
+        ensures differences { self.new.differences ≡ self.old.differences }
     {
         self.failure.take()
     }
@@ -93,89 +88,97 @@ impl<P: Printer + Drop> Report<P> {
         (self.printer, self.segments)
     }
 
-    /// Lists a record that is of one capture alone.
-    fn list(&mut self, side: Side, number: u64, seen: &Seen)
-        ensures listed { Lists P.prints P.finds side number (told seen.now) self.old self.new }
+    /// Holds a record that is both, by which one that comes again is told.
+    fn hold(&mut self, received: &Seen)
+        ensures recent { IfNone self.new.failure (self.new.recent ≡ with_both (told received.now) self.old.recent) }
+        ensures stays { IfNone self.new.failure (self.old.failure ≡ None) }
+        ensures printer { self.new.printer ≡ self.old.printer }
+        ensures differences { self.new.differences ≡ self.old.differences }
         ensures order { self.new.order ≡ self.old.order }
         ensures table { self.new.table ≡ self.old.table }
         ensures segments { self.new.segments ≡ self.old.segments }
         ensures asked { self.new.asked ≡ self.old.asked }
-        ensures reading { self.new.reading ≡ self.old.reading }
     {
-        if !self.asked.lists || self.failure.is_some() {
+        if self.failure.is_some() {
             return;
         }
-        let lonely = lonely_of(self.asked, side, number, seen);
-        if let Err(failure) = self.print_alone(lonely, seen) {
+        if let Err(error) = self.recent.hold(received) {
+            self.failure = Some(P::Fault::from(error));
+        }
+    }
+
+    /// Tells a record that is of one capture alone.
+    fn tell(&mut self, side: Side, number: u64, seen: &Seen)
+        ensures told { Tells P.prints P.finds side number (told seen.now) self.old self.new }
+        ensures order { self.new.order ≡ self.old.order }
+        ensures recent { self.new.recent ≡ self.old.recent }
+        ensures table { self.new.table ≡ self.old.table }
+        ensures segments { self.new.segments ≡ self.old.segments }
+        ensures asked { self.new.asked ≡ self.old.asked }
+        ensures stays { IfNone self.new.failure (self.old.failure ≡ None) }
+    {
+        if self.failure.is_some() {
+            return;
+        }
+        if let Err(failure) = self.tell_alone(side, number, seen) {
             self.failure = Some(failure);
         }
     }
 
-    /// Prints the line of a record that is of one capture alone.
-    fn print_alone(&mut self, lonely: Lonely, seen: &Seen) -> Result<(), P::Fault>
-        ensures listed { OnOk result (IsListed P.prints P.finds lonely (told seen.now) self.old self.new) }
+    /// Finds what of a near one differs, and prints the line of the record where a list is asked for.
+    fn tell_alone(&mut self, side: Side, number: u64, seen: &Seen) -> Result<(), P::Fault>
+        ensures told { OnOk result (IsTold P.prints P.finds self.old.asked.lists side number (told seen.now) self.old self.new) }
         ensures failure { self.new.failure ≡ self.old.failure }
         ensures order { self.new.order ≡ self.old.order }
+        ensures recent { self.new.recent ≡ self.old.recent }
         ensures table { self.new.table ≡ self.old.table }
         ensures segments { self.new.segments ≡ self.old.segments }
         ensures asked { self.new.asked ≡ self.old.asked }
-        ensures reading { self.new.reading ≡ self.old.reading }
     {
-        let event = match event_by(&mut self.printer, lonely) {
-            Ok(event) => event,
-            Err(fault) => return Err(fault),
-        };
-        let behind = match self.told_of(lonely.side, seen) {
-            Ok(behind) => behind,
+        let segment = segment_in(&self.differences, seen);
+        let difference = match difference_in(&mut self.differences, side, number, seen) {
+            Ok(difference) => difference,
             Err(error) => return Err(P::Fault::from(error)),
         };
-        let line = line_of(lonely, event, behind);
-        print_told(&mut self.printer, &line)
-    }
-
-    /// What is told of a record by what is held of those that were received alone: its segment, and what of a near one differs.
-    fn told_of(
-        &mut self,
-        side: Side,
-        seen: &Seen,
-    ) -> Result<(Option<RecordSegment>, Option<Difference>), AllocError>
-        ensures told { IfOk result (λ told_of. IsTold side self.old.reading self.old.asked.clock.within (told seen.now) self.old.held
-            self.new.held told_of.0 told_of.1) }
-        ensures printer { self.new.printer ≡ self.old.printer }
-        ensures failure { self.new.failure ≡ self.old.failure }
-        ensures order { self.new.order ≡ self.old.order }
-        ensures table { self.new.table ≡ self.old.table }
-        ensures segments { self.new.segments ≡ self.old.segments }
-        ensures asked { self.new.asked ≡ self.old.asked }
-        ensures reading { self.new.reading ≡ self.old.reading }
-    {
-        let Some(held) = &mut self.held else {
-            return Ok((None, None));
-        };
-        let within = self.asked.clock.within;
-        match name_in(held, side, self.reading, within, seen) {
-            Ok(difference) => Ok((Some(segment_of(self.reading, seen.octets)), difference)),
-            Err(error) => Err(error),
+        if !self.asked.lists {
+            return Ok(());
         }
+        let lonely = lonely_of(self.asked, side, number, seen);
+        print_alone(&mut self.printer, lonely, segment, difference)
     }
+}
+
+/// Prints the line of a record that is of one capture alone.
+fn print_alone<P: Printer>(
+    printer: &mut P,
+    lonely: Lonely,
+    segment: Option<RecordSegment>,
+    difference: Option<Difference>,
+) -> Result<(), P::Fault>
+    ensures { OnOk result (IsListed P.prints P.finds lonely segment difference printer.old printer.new) }
+{
+    let event = match event_by(printer, lonely) {
+        Ok(event) => event,
+        Err(fault) => return Err(fault),
+    };
+    let line = line_of(lonely, event, segment, difference);
+    print_told(printer, &line)
 }
 
 /// The line of a record, by its event, its segment and what of a near one differs.
 fn line_of(
     lonely: Lonely,
     event: Option<u64>,
-    behind: (Option<RecordSegment>, Option<Difference>),
+    segment: Option<RecordSegment>,
+    difference: Option<Difference>,
 ) -> LonelyLine
-    ensures lonely { result.record ≡ lonely }
-    ensures event { result.event ≡ event }
-    ensures segment { result.segment ≡ behind.0 }
-    ensures difference { result.difference ≡ behind.1 }
+    ensures { result ≡ record { «record» = lonely; segment = segment; event = event; difference = difference } }
 {
     LonelyLine {
         record: lonely,
-        segment: behind.0,
+        segment,
         event,
-        difference: behind.1,
+        difference,
     }
 }
 
@@ -189,19 +192,49 @@ fn event_by<P: Printer>(printer: &mut P, lonely: Lonely) -> Result<Option<u64>, 
     }
 }
 
-/// What of a near one differs, of a record that was sent; one that was received is held.
-fn name_in(
-    held: &mut LonelySeen,
-    side: Side,
+/// Where what of near ones differs is looked for: at a place.
+fn differences_asked(
+    alloc: Global,
+    asked: Asked,
     reading: Reading,
-    within: u64,
+) -> Result<Option<Differences>, AllocError>
+    ensures { IfOk result (λ differences. differences ≡ differences_asked asked reading) }
+{
+    if asked.at.is_none() {
+        return Ok(None);
+    }
+    match Differences::new(alloc, reading, asked.clock.within) {
+        Ok(differences) => Ok(Some(differences)),
+        Err(error) => Err(error),
+    }
+}
+
+/// The segment of a record, at a place.
+fn segment_in(differences: &Option<Differences>, seen: &Seen) -> Option<RecordSegment>
+    ensures { result ≡ segment_in differences.now (told seen.now) }
+{
+    match differences {
+        Some(differences) => Some(segment_of(differences.reading(), seen.octets)),
+        None => None,
+    }
+}
+
+/// What of a near one differs, of a record that was sent; one that was received is held.
+fn difference_in(
+    differences: &mut Option<Differences>,
+    side: Side,
+    number: u64,
     seen: &Seen,
 ) -> Result<Option<Difference>, AllocError>
-    ensures { IfOk result (λ difference. IsNamed side reading within (told seen.now) held.old held.new difference) }
+    ensures difference { IfOk result (λ difference. difference ≡ difference_in side (told seen.now) differences.old) }
+    ensures differences { OnOk result (differences.new ≡ differences_with side number (told seen.now) differences.old) }
 {
+    let Some(differences) = differences else {
+        return Ok(None);
+    };
     match side {
-        Side::Sent => Ok(held.name(reading, within, seen)),
-        Side::Received => match held.hold(seen) {
+        Side::Sent => Ok(differences.send(number, seen)),
+        Side::Received => match differences.receive(number, seen) {
             Ok(()) => Ok(None),
             Err(error) => Err(error),
         },
@@ -242,16 +275,18 @@ impl<P: Printer + Drop> Onlooker for Report<P> {
         self.order.see_both(sent_moment, number, received);
         self.table.see_both(sent_moment, number, received);
         self.segments.see_both(sent_moment, number, received);
+        self.hold(received);
     }
 
     fn see_received(&mut self, number: u64, received: &Seen) {
-        self.list(Side::Received, number, received);
+        self.recent.see_alone(received);
+        self.tell(Side::Received, number, received);
         self.table.see_received(number, received);
         self.segments.see_received(number, received);
     }
 
     fn see_sent(&mut self, number: u64, sent: &Seen) {
-        self.list(Side::Sent, number, sent);
+        self.tell(Side::Sent, number, sent);
         self.table.see_sent(number, sent);
         self.segments.see_sent(number, sent);
     }

@@ -1,5 +1,5 @@
 //! Records that are compared, counted by the segments of settings.
-ghost use Rattle.std.specs.Prelude.{◌≡◌, IfOk, None, OnOk, is_none};
+ghost use Rattle.std.specs.Prelude.{◌≡◌, IfOk, None, OnOk};
 ghost use Rattle.std.specs.List.{FoldsTo};
 ghost use Rattle.capture_compare.specs.Counting.{row_at};
 ghost use Rattle.compare_reports.specs.Prints.{Prints};
@@ -50,13 +50,6 @@ impl Segments {
             None => Ok(Tunnels::standard()),
             Some(counts) => counts.index.tunnels(),
         }
-    }
-
-    /// Whether no settings say which there are.
-    pub(crate) fn is_none(&self) -> bool
-        ensures { result ≡ is_none self.now.counts }
-    {
-        self.counts.is_none()
     }
 
     /// From now on records are those of a place, compared by this manner.

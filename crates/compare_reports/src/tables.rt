@@ -2,7 +2,7 @@
 ghost use Rattle.std.specs.Prelude.{◌≡◌, IfOk, OnOk, is_some};
 ghost use Rattle.std.specs.List.{FoldsTo};
 ghost use Rattle.compare_reports.specs.Prints.{Prints};
-ghost use Rattle.compare_reports.specs.Told.{PrintsDelays, PrintsTable, is_empty_row, is_no_table, is_table_name, length_text};
+ghost use Rattle.compare_reports.specs.Told.{PrintsDelays, PrintsTable, is_empty_row, is_table_name, length_text};
 ghost use Rattle.compare_reports.specs.Told.{length_texts, no_table, table_named, table_with};
 
 use crate::printer::{Printer, print_told, print_unless};
@@ -62,13 +62,6 @@ impl Table {
             Some(TableBy::Length) => Ok(Table::Length(LengthTable::new(alloc)?)),
             Some(TableBy::Delay) => Ok(Table::Delay(DelayTable::new(alloc, clock.within)?, ahead)),
         }
-    }
-
-    /// Whether there is none.
-    pub(crate) fn is_none(&self) -> bool
-        ensures { result ≡ is_no_table self.now }
-    {
-        matches!(self, Table::None)
     }
 
     /// Prints its lines.

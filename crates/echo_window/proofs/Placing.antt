@@ -1,10 +1,13 @@
 -- The words of a set of places, bit by bit: what is read, and what a write leaves.
-use Rattle.std.proofs.Common.{◌≡◌, ◌≢◌, ◌⊎◌, ℕ, ◌/◌, ◌%◌, ◌<◌, zero, suc, Bool, false, eqb, List, [], ◌∷◌, length, get_or, set, replicate, refl, sym, ap, ◌∙◌, arith, inl, inr, length-set}
+use Rattle.std.proofs.Common.{◌≡◌, ◌≢◌, ◌⊎◌, ℕ, ◌+◌, ◌*◌, ◌/◌, ◌%◌, ◌^◌, ◌<◌, zero, suc, Bool, true, false, not, eqb, List, [], ◌∷◌, length, get_or, set, replicate}
+use Rattle.std.proofs.Common.{refl, sym, ap, ◌∙◌, arith, inl, inr, length-set}
 use Rattle.std.proofs.lemmas.Bool.{cases_eq}
 use Rattle.std.proofs.lemmas.List.{ext_get_or, get_or-replicate, get_or-set_other, get_or-set_same, length-replicate}
 use Rattle.std.proofs.lemmas.List.FromFn.{get_or-map-range_with_len, length-map-range_with_len}
-use Rattle.std.proofs.lemmas.Nat.Bits.{bit_at-zero}
-use Rattle.std.specs.Int.{bit_at}
+use Rattle.std.proofs.lemmas.List.Folds.{list_all_at}
+use Rattle.std.proofs.lemmas.Nat.Bits.{bit_at-trailing_zeros, bit_at-zero}
+use Rattle.std.specs.Int.{bit_at, trailing_zeros, w64}
+use Rattle.std.specs.List.{list_all}
 use Rattle.echo_window.specs.Places.{flag_at, flags_in}
 
 pub flags-length : (words : List ℕ) → length (flags_in words) ≡ 256
@@ -68,3 +71,21 @@ zero-words (suc zero) = refl
 zero-words (suc (suc zero)) = refl
 zero-words (suc (suc (suc zero))) = refl
 zero-words (suc (suc (suc (suc i)))) = refl
+
+-- a word that isn't 0 has a bit
+pub bit-set : (words : List ℕ) (j : ℕ) → j < 4 → 0 < get_or words j 0 → get_or words j 0 < 2 ^ 64 → list_all not (flags_in words) ≡ false
+bit-set words j low some few =
+    let word = get_or words j 0 in
+    let lowest = bit_at-trailing_zeros w64 word some few in
+    let bit = trailing_zeros w64 word in
+    let short : bit < 64 = lowest.0 in
+    let place : (j * 64 + bit) / 64 ≡ j = omega (arith, short) in
+    let rest : (j * 64 + bit) % 64 ≡ bit = omega (arith, short) in
+    let inside : j * 64 + bit < 256 = omega (arith, low, short) in
+    let known : flag_at words (j * 64 + bit) ≡ true =
+    ap (λ (k : ℕ). eqb (bit_at (get_or words k 0) ((j * 64 + bit) % 64)) 1) place ∙ ap (λ (k : ℕ). eqb (bit_at word k) 1) rest ∙ ap (λ (b : ℕ). eqb b 1) lowest.1 in
+    list_all_at not (flags_in words) (j * 64 + bit) false (omega (arith, inside, flags-length words)) (ap not (flags-at words (j * 64 + bit) inside ∙ known))
+
+-- where none has one, all are 0
+pub none-set : (words : List ℕ) → ((i : ℕ) → get_or words i 0 ≡ 0) → list_all not (flags_in words) ≡ true
+none-set words none = ap (λ (l : List Bool). list_all not l) (flags-none words none)

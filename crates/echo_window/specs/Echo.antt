@@ -10,7 +10,7 @@
 --     behind_met, behind_entered   what a window knows then
 use Rattle.std.specs.Prelude.{ℕ, ◌+◌, ◌-◌, ◌^◌, min, nat_eq, nat_lt, nat_le, ◌&&◌, not, if◌then◌else◌, Bool, false, List, []}
 use Rattle.std.specs.Prelude.{◌∷◌, ◌++◌, get_or, length, Option, Some, None, option_map, set, slice_index_or}
-use Rattle.std.specs.List.{find, flat_map, position}
+use Rattle.std.specs.List.{find, flat_map, list_all, position}
 use Rattle.echo_window.specs.declared.forgotten.Forgotten.{Forgotten}
 use Rattle.wire.specs.Octets.{is_same}
 
@@ -63,10 +63,18 @@ abbrev pub newest : List Arrival → List Arrival
 newest [] = []
 newest (c ∷ came) = if fits (c ∷ came) then c ∷ came else newest came
 
--- the ages at a moment of those among frames that go since the others alone fit, the earliest first
+-- a frame was met again at each place where it might be: no echo of it can come any more
+abbrev pub is_met_everywhere : Arrival → Bool
+is_met_everywhere c = list_all not c.awaited
+
+-- its age at a moment, unless it was
+abbrev pub age_at : ℕ → Arrival → List ℕ
+age_at moment c = if is_met_everywhere c then [] else (moment - c.moment) ∷ []
+
+-- the ages at a moment of those among frames that go since the others alone fit, and that may be met again, the earliest first
 abbrev pub crowded_out : ℕ → List Arrival → List ℕ
 crowded_out moment [] = []
-crowded_out moment (c ∷ came) = if fits (c ∷ came) then [] else (moment - c.moment) ∷ crowded_out moment came
+crowded_out moment (c ∷ came) = if fits (c ∷ came) then [] else age_at moment c ++ crowded_out moment came
 
 -- a frame that came in, met nowhere else yet
 abbrev pub first_met : Record → Arrival

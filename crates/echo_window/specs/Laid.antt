@@ -1,12 +1,12 @@
 -- How a window keeps frames: their octets one behind the other in one row. It serves proofs.
-use Rattle.std.specs.Prelude.{◌≡◌, ◌≤◌, ℕ, ◌+◌, nat_lt, Bool, false, List, [], ◌∷◌, ◌++◌, drop, length, take}
+use Rattle.std.specs.Prelude.{◌≡◌, ◌≤◌, ℕ, ◌+◌, nat_lt, Bool, false, List, [], ◌∷◌, drop, length, take}
 use Rattle.echo_window.specs.Echo.{Arrival, Record}
 use Rattle.echo_window.specs.declared.kept.Kept.{Kept}
 use Rattle.echo_window.specs.declared.record.Record.{Record as Told}
 
 -- what a record tells
 abbrev pub told : Told → Record
-told r = record { place = r.place; moment = r.moment; frame = r.addresses.now ++ r.rest.now; awaited = r.awaited.now }
+told r = record { place = r.place; moment = r.moment; frame = r.frame.now; awaited = r.awaited.now }
 
 -- a frame with its octets
 abbrev pub came_of : Kept → List ℕ → Arrival

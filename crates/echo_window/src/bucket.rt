@@ -2,9 +2,7 @@
 ghost use Rattle.std.specs.Prelude.{◌≡◌, ◌<◌, ◌+◌, ◌++◌, get_or, length};
 ghost use Rattle.byteorder.specs.Endian.{little_from};
 ghost use Rattle.echo_window.specs.Bucket.{bucket_of, sum_of, with_word};
-ghost use Rattle.echo_window.specs.Laid.{told};
 
-use crate::record::{Record, length_of};
 use byteorder::{ByteOrder, LittleEndian};
 
 /// How many buckets there are, a power of two.
@@ -25,14 +23,14 @@ const SPREAD: u64 = 0x9E37_79B9_7F4A_7C15;
 /// How many sums one bucket has: 2^64 of them are shared by the buckets.
 const SHARE: u64 = 1_125_899_906_842_624;
 
-/// The bucket of the frame of a record, below 16,384: it depends on the frame's length, its first 60 octets, and its last 8.
-/// Frames that differ there share their bucket by chance. Frames that differ nowhere else share it always.
+/// The bucket of a frame of two texts, one behind the other, below 16,384: it depends on the frame's length, its first 60 octets,
+/// and its last 8. Frames that differ there share their bucket by chance. Frames that differ nowhere else share it always.
 #[inline(always)]
-pub(crate) fn bucket_of(met: &Record) -> usize
-    ensures bucket { result ≡ bucket_of (told met.now).frame }
+pub(crate) fn bucket_of(front: &[u8], rest: &[u8]) -> usize
+    ensures bucket { result ≡ bucket_of (front.now ++ rest.now) }
     ensures bound { result < 16384 }
 {
-    (sum_of(met.addresses, met.rest, length_of(met)) / SHARE) as usize
+    (sum_of(front, rest, front.len() + rest.len()) / SHARE) as usize
 }
 
 /// The sum of two texts, one behind the other, which have so many octets. Mostly the first is empty, or holds the addresses: in

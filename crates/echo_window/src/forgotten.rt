@@ -1,6 +1,6 @@
 //! What a window forgot for want of room.
-ghost use Rattle.std.specs.Prelude.{◌≡◌, None, min};
-ghost use Rattle.echo_window.specs.Echo.{lesser, with_age};
+ghost use Rattle.std.specs.Prelude.{◌≡◌, [], ◌∷◌, None, if◌then◌else◌, min};
+ghost use Rattle.echo_window.specs.Echo.{lesser, with_ages};
 
 /// What a window forgot for want of room, although an echo of it might still have come.
 #[derive(Clone, Copy, Debug, PartialEq, Eq)]
@@ -23,10 +23,13 @@ impl Forgotten {
         }
     }
 
-    /// Counts one more frame, which went at this age.
-    pub(crate) fn add(&mut self, age: u64)
-        ensures { self.new ≡ with_age self.old age }
+    /// Counts one more frame, which went at this age, unless it was met again wherever it might be.
+    pub(crate) fn add(&mut self, age: u64, is_met_everywhere: bool)
+        ensures { self.new ≡ with_ages self.old (if is_met_everywhere then [] else age ∷ []) }
     {
+        if is_met_everywhere {
+            return;
+        }
         self.count = self.count.saturating_add(1);
         self.least_age = Some(lesser(self.least_age, age));
     }

@@ -1,12 +1,10 @@
 //! A frame that came in, but for its octets.
-ghost use Rattle.std.specs.Prelude.{◌≡◌, ◌+◌, ◌&&◌, nat_eq, nat_lt, [], ◌++◌};
-ghost use Rattle.wire.specs.Octets.{is_same};
+ghost use Rattle.std.specs.Prelude.{◌≡◌, ◌+◌, ◌&&◌, nat_eq, nat_lt, []};
 ghost use Rattle.echo_window.specs.Echo.{is_awaited, is_echo_of, is_elsewhere, is_soon};
 ghost use Rattle.echo_window.specs.Laid.{came_of, told};
 
 use crate::place_set::PlaceSet;
-use crate::record::{Record, length_of};
-use octet_row::is_same;
+use crate::record::Record;
 
 /// A frame that came in, but for its octets, which stand elsewhere.
 #[derive(Drop)]
@@ -34,10 +32,10 @@ impl Kept {
     pub(crate) fn is_met_by(&self, octets: &[u8], within: u64, met: &Record) -> bool
         ensures { result ≡ is_echo_of within (told met.now) (came_of self.now octets.now) }
     {
-        if octets.len() != length_of(met) {
+        if octets.len() != met.frame.octet_count() {
             return false;
         }
-        self.awaits(within, met) && is_joined(octets, met.addresses, met.rest)
+        self.awaits(within, met) && met.frame.is_same_as(octets)
     }
 
     /// Whether it came in more than so many nanoseconds before a moment.
@@ -77,16 +75,4 @@ impl Kept {
     {
         self.awaited.has(met.place)
     }
-}
-
-/// Whether a text is two others, one behind the other.
-#[tactic(auto, using(crate::proofs::Texts::same_parts, crate::proofs::Texts::too_short))]
-fn is_joined(text: &[u8], front: &[u8], rest: &[u8]) -> bool
-    ensures { result ≡ is_same text.now (front.now ++ rest.now) }
-{
-    if text.len() < front.len() {
-        return false;
-    }
-    let (begin, end) = text.split_at(front.len());
-    is_same(begin, front) && is_same(end, rest)
 }

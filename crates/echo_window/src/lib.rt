@@ -10,8 +10,8 @@
 //!
 //! Proved: of every row of records, each is an echo exactly where the definition says so, and the frames that are kept behind
 //! it are those of the definition: those that came in at most so long before, of these the latest, at most 4,096 and 4 MiB of
-//! octets together. What goes for want of room is counted, with the least age at which any went. Only [`Window::new`] takes
-//! memory, some 8.5 MiB.
+//! octets together. What goes for want of room is counted where it may be met again, with the least age at which any went.
+//! Only [`Window::new`] takes memory, some 8.4 MiB.
 //!
 //! Proved besides:
 //! - Whether a record of a capture is an echo of a frame that came in elsewhere at most so long before, and of the
@@ -33,6 +33,7 @@
 
 mod bucket;
 mod forgotten;
+mod frame_text;
 mod index;
 mod kept;
 mod place_set;
@@ -41,6 +42,7 @@ mod search;
 mod window;
 
 pub use forgotten::Forgotten;
+pub use frame_text::FrameText;
 pub use place_set::PlaceSet;
 pub use record::Record;
 pub use window::Window;

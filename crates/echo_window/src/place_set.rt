@@ -1,5 +1,7 @@
 //! Places of captures, as a set.
-ghost use Rattle.std.specs.Prelude.{◌≡◌, ◌<◌, ◌/◌, ◌%◌, false, get_or, replicate, set, true};
+ghost use Rattle.std.specs.Prelude.{◌≡◌, ◌<◌, ◌/◌, ◌%◌, false, get_or, nat_eq, not, replicate, set, true};
+ghost use Rattle.std.specs.List.{list_all};
+ghost use Rattle.echo_window.specs.Places.{flags_in};
 
 use std::marker::Model;
 
@@ -36,7 +38,7 @@ impl PlaceSet {
 
     /// The same set.
     #[inline(always)]
-    pub(crate) fn copied(&self) -> PlaceSet
+    pub fn copied(&self) -> PlaceSet
         ensures { result ≡ self.now }
     {
         PlaceSet { words: self.words }
@@ -48,6 +50,14 @@ impl PlaceSet {
         ensures { result ≡ get_or self.now place false }
     {
         (self.words[word_of(place)] >> bit_of(place)) & 1 == 1
+    }
+
+    /// Whether no place is in it.
+    #[inline(always)]
+    pub fn is_empty(&self) -> bool
+        ensures { result ≡ list_all not self.now }
+    {
+        are_zero(&self.words)
     }
 
     /// Puts a place into it, which may be in it already.
@@ -65,6 +75,28 @@ impl PlaceSet {
     {
         self.words[word_of(place)] &= !(1 << bit_of(place));
     }
+}
+
+/// Whether no bit of these words is 1.
+#[inline(always)]
+fn are_zero(words: &[u64; WORDS]) -> bool
+    ensures { result ≡ list_all not (flags_in words.now) }
+{
+    for i in 0..WORDS {
+        if !is_zero(words[i]) {
+            return false;
+        }
+    }
+    true
+}
+
+/// Whether no bit of a word is 1.
+#[inline(always)]
+fn is_zero(word: u64) -> bool
+    ensures value { result ≡ nat_eq word 0 }
+    ensures range { word < 18446744073709551616 }
+{
+    word == 0
 }
 
 /// Which word tells of a place.

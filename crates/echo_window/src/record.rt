@@ -1,7 +1,6 @@
 //! Records of captures.
-ghost use Rattle.std.specs.Prelude.{◌≡◌, length};
-ghost use Rattle.echo_window.specs.Laid.{told};
 
+use crate::frame_text::FrameText;
 use crate::place_set::PlaceSet;
 
 /// What a record of a capture tells of a frame.
@@ -11,17 +10,8 @@ pub struct Record<'a> {
     pub place: u8,
     /// Nanoseconds.
     pub moment: u64,
-    /// The frame's octets before its VLAN tag. Where it has none: any of its first octets, or none.
-    pub addresses: &'a [u8],
-    /// The frame's octets behind that.
-    pub rest: &'a [u8],
+    /// The frame's octets without its VLAN tag.
+    pub frame: &'a FrameText<'a>,
     /// Where it may be met again, if it came in.
     pub awaited: &'a PlaceSet,
-}
-
-/// How many octets the frame of a record has.
-pub(crate) fn length_of(met: &Record) -> usize
-    ensures { result ≡ length (told met.now).frame }
-{
-    met.addresses.len() + met.rest.len()
 }

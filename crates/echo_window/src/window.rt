@@ -1,16 +1,16 @@
 //! The latest frames that came in.
-ghost use Rattle.std.specs.Prelude.{◌≡◌, ◌≤◌, ◌<◌, ◌+◌, ◌-◌, ◌&&◌, [], ◌∷◌, ◌++◌, IfOk, drop, length, nat_eq, nat_le, slice_index_or, true};
+ghost use Rattle.std.specs.Prelude.{◌≡◌, ◌≤◌, ◌<◌, ◌+◌, ◌-◌, ◌&&◌, [], ◌∷◌, ◌++◌, IfOk, drop, if◌then◌else◌, length, nat_eq, nat_le};
+ghost use Rattle.std.specs.Prelude.{slice_index_or, true};
 ghost use Rattle.std.specs.List.{position};
-ghost use Rattle.echo_window.specs.Echo.{behind_entered, behind_met, crowded_by, echo_of, first_met, fits, is_echo_of};
-ghost use Rattle.echo_window.specs.Echo.{met_again, new_window, newest, recent, with_age, with_ages, with_met};
+ghost use Rattle.echo_window.specs.Echo.{Record as ARecord, age_at, behind_entered, behind_met, crowded_by, echo_of, first_met, fits};
+ghost use Rattle.echo_window.specs.Echo.{is_echo_of, is_met_everywhere, met_again, new_window, newest, recent, with_ages, with_met};
 ghost use Rattle.echo_window.specs.Bucket.{bucket_of};
 ghost use Rattle.echo_window.specs.Laid.{begins_past, told};
 
-use crate::bucket::bucket_of;
 use crate::forgotten::Forgotten;
 use crate::index::Index;
 use crate::kept::Kept;
-use crate::record::{Record, length_of};
+use crate::record::Record;
 use crate::search::{find, find_linked, is_alike};
 use octet_row::Row;
 use std::alloc::{AllocError, Global};
@@ -83,7 +83,7 @@ impl Window {
         ensures { self.new ≡ behind_entered self.old (told met.now) }
     {
         self.forget_past(met.moment);
-        self.keep(met, bucket_of(met));
+        self.keep(met, met.frame.bucket());
     }
 
     /// How many nanoseconds later an echo may be.
@@ -106,7 +106,7 @@ impl Window {
         ensures answer { result ≡ echo_of self.old.within self.old.came (told met.now) }
         ensures behind { self.new ≡ record self.old { came = with_met self.old.within self.old.came (told met.now) } }
     {
-        match self.search(met, bucket_of(met)) {
+        match self.search(met, met.frame.bucket()) {
             Some(i) => Some(self.mark(i, met)),
             None => None,
         }
@@ -172,7 +172,7 @@ impl Window {
     {
         while !self.has_room(met) {
             if self.is_empty() {
-                self.count_lost(0);
+                self.count_lost(0, met.awaited.is_empty());
                 return;
             }
             self.lose_first(met);
@@ -180,15 +180,15 @@ impl Window {
         self.put(met, bucket);
     }
 
-    /// Forgets the earliest frame, and counts it at its age when a record came.
+    /// Forgets the earliest frame, and counts it at its age when a record came, where it may be met again.
     fn lose_first(&mut self, met: &Record)
         requires { 0 < length self.old.came }
         ensures { self.new ≡ record self.old {
           came = drop 1 self.old.came;
-          forgotten = with_age self.old.forgotten (met.now.moment - (slice_index_or self.old.came 0 (first_met (told met.now))).moment);
+          forgotten = with_ages self.old.forgotten (age_at met.now.moment (slice_index_or self.old.came 0 (first_met (told met.now))));
         } }
     {
-        self.count_lost(self.first_age(met));
+        self.count_lost(self.first_age(met), self.is_first_met());
         self.forget_first();
     }
 
@@ -203,7 +203,11 @@ impl Window {
     fn has_room(&self, met: &Record) -> bool
         ensures { result ≡ fits (self.now.came ++ first_met (told met.now) ∷ []) }
     {
-        fit(self.frames.len() + 1, self.row.count(), length_of(met))
+        fit(
+            self.frames.len() + 1,
+            self.row.count(),
+            met.frame.octet_count(),
+        )
     }
 
     /// The age of the earliest frame when a record came.
@@ -214,11 +218,21 @@ impl Window {
         met.moment.saturating_sub(self.frames[0].moment)
     }
 
-    /// Counts one more frame for which there is no room, at this age.
-    fn count_lost(&mut self, age: u64)
-        ensures { self.new ≡ record self.old { forgotten = with_age self.old.forgotten age } }
+    /// Whether the earliest frame was met again wherever it might be.
+    fn is_first_met(&self) -> bool
+        requires { 0 < length self.now.came }
+        ensures { (r : ARecord) → result ≡ is_met_everywhere (slice_index_or self.now.came 0 (first_met r)) }
     {
-        self.forgotten.add(age);
+        self.frames[0].awaited.is_empty()
+    }
+
+    /// Counts one more frame for which there is no room, at this age, unless it was met again wherever it might be.
+    fn count_lost(&mut self, age: u64, is_met_everywhere: bool)
+        ensures { self.new ≡ record self.old {
+          forgotten = with_ages self.old.forgotten (if is_met_everywhere then [] else age ∷ []);
+        } }
+    {
+        self.forgotten.add(age, is_met_everywhere);
     }
 
     /// Forgets the earliest frame.
@@ -244,12 +258,12 @@ impl Window {
             place: met.place,
             moment: met.moment,
             at: self.index.octets_before(self.row.count()),
-            length: length_of(met),
+            length: met.frame.octet_count(),
             alike: is_alike(&self.frames, &self.row, &self.index, bucket, met.place),
             before: self.index.enter(bucket, self.frames.len()),
             awaited: met.awaited.copied(),
         };
-        self.row.put(met.addresses, met.rest);
+        met.frame.put_behind(&mut self.row);
         self.frames.push_back_reserved(kept);
     }
 }

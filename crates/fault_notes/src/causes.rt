@@ -3,10 +3,12 @@ use crate::named::{capture_at, folder_of, is_text, names_of};
 use crate::notes::tell_notes;
 use crate::refusals::{tell_part_capture, tell_pcapng, tell_refused};
 use command_line::{Line, STANDARD_INPUT, capture_name};
-use part_merge::PartFault;
+use part_lines::PartFault;
 use part_record::MOST_PORTS;
-use program_faults::{Failure, OneLine, OutputFile, PartFailure, SplitFailure, SystemFault};
-use program_files::{FailedOutput, file_of, is_same, path_of, read_fault};
+use program_files::{
+    FailedOutput, Failure, OneLine, OutputFile, PartFailure, SplitFailure, SystemFault, file_of,
+    is_same, path_of, read_fault,
+};
 use std::alloc::AllocError;
 use std::fs;
 use std::io::ErrorKind;

@@ -1,8 +1,9 @@
 //! The interfaces of a capture, for who names one that isn't there, or none of several.
 use command_line::capture_name;
 use pcapng_input::Selection;
-use program_faults::OneLine;
-use program_files::{Described, MOST_INTERFACES, Reach, file_of, interfaces_of_file, selection_of};
+use program_files::{
+    Described, MOST_INTERFACES, OneLine, Reach, file_of, interfaces_of_file, selection_of,
+};
 use std::alloc::{AllocError, Global};
 use std::fmt::{self, Write};
 use std::rt::Files;

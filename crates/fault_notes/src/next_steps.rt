@@ -4,7 +4,7 @@ use crate::named::capture_at;
 use capture_run::RunFault;
 use command_line::{Line, STANDARD_INPUT, capture_name};
 use part_record::{PartRecordFault, PartingFault};
-use program_faults::{DigestsFailure, Failure, OneLine, OutputFile, PartFailure, Quoted};
+use program_files::{DigestsFailure, Failure, OneLine, OutputFile, PartFailure, Quoted};
 use timeline::Tap;
 
 /// Tells what to do next about a fault, where there is one thing to do.

@@ -1,8 +1,7 @@
 //! How many files a run or a merge opens at once, told where more than the process may have open.
 use crate::notes::ports_in;
 use command_line::Line;
-use program_faults::Failure;
-use program_files::{files_at_once, has_room, is_refused};
+use program_files::{Failure, files_at_once, has_room, is_refused};
 use std::alloc::AllocError;
 use std::rt::Files;
 
@@ -61,12 +60,14 @@ fn opening_of<R: Files + AllocGlobal>(
             underlay,
             ports,
             json,
+            pcapng,
             ..
         } => {
             let texts = count_handed_on(&[*settings, (*changes).unwrap_or(""), *underlay]);
             let aside = texts
                 .saturating_add(count_handed_on(ports.as_slice()))
-                .saturating_add(usize::from(*json));
+                .saturating_add(usize::from(*json))
+                .saturating_add(usize::from(pcapng.is_some()));
             Ok(Some(opening_of_run(ports.len(), aside)))
         }
         Line::Merge { parts, .. } => match parts.first() {

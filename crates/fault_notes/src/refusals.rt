@@ -5,13 +5,14 @@ use crate::named::{capture_at, changes_of_line, settings_of_line};
 use capture_run::RunFault;
 use command_line::{Line, capture_name};
 use config_text::SettingsFault;
-use part_merge::RecordsFault;
+use part_lines::RecordsFault;
 use pcap::kind::FileKind;
 use pcap::stream::SourceFault;
 use pcap::text::CaptureFault;
 use pcapng_input::{BlockFault, PcapngFault};
-use program_faults::{OneLine, OutputFile};
-use program_files::{Reach, file_of, head_of_file, interfaces_of_file, path_of, read_file};
+use program_files::{
+    OneLine, OutputFile, Reach, file_of, head_of_file, interfaces_of_file, path_of, read_file,
+};
 use std::alloc::AllocError;
 use std::fs;
 use std::rt::Files;

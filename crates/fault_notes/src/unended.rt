@@ -1,8 +1,7 @@
 //! Runs into a folder that didn't end.
 use crate::named::folder_of;
 use command_line::Line;
-use program_faults::OneLine;
-use program_files::Mark;
+use program_files::{Mark, OneLine};
 use std::rt::Files;
 
 /// Whether the folder that a line writes into says that a run into it didn't end. It is asked before the line is done.

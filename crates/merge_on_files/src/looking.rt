@@ -4,9 +4,9 @@ use part_record::{
     OutputFacts, PartRecord, PartRecordFault, ToldOutputs, ToldRecord, ToldTexts, part_all,
     record_of, same_run,
 };
-use program_faults::{Failure, OutputFile, PartFailure, read_text};
 use program_files::{
-    PartLines, count_lines, is_as_told, is_read_again, may_have_octets, open_part_file, see_ended,
+    Failure, OutputFile, PartFailure, PartLines, count_lines, is_as_told, is_read_again,
+    may_have_octets, open_part_file, read_text, see_ended,
 };
 use segment_set::SegmentSet;
 use std::alloc::AllocError;

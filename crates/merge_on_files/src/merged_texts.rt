@@ -2,8 +2,7 @@
 use crate::looking::Looked;
 use octet_sums::fletcher::OctetSum;
 use part_record::ToldTexts;
-use program_faults::{Failure, OutputFile, PartFailure, read_text};
-use program_files::{open_part_file, path_of, sum_of};
+use program_files::{Failure, OutputFile, PartFailure, open_part_file, path_of, read_text, sum_of};
 use run_counts::parts::{ReportFault, Summary, TablesFault, rows_in, tables_of};
 use std::alloc::AllocError;
 use std::fs;

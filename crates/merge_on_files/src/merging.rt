@@ -6,8 +6,9 @@ use crate::merged_texts::{MergedTexts, TextsAsked, merge_texts};
 use crate::opening::{may_wait, open_parts};
 use part_merge::{MergeFault, Target, merge_streams};
 use part_record::{MOST_PORTS, ToldOutputs};
-use program_faults::{Failure, OutputFile};
-use program_files::{Apart, FailedOutputs, Mark, drop_part, open_outputs, path_of, see_room};
+use program_files::{
+    Apart, FailedOutputs, Failure, Mark, OutputFile, drop_part, open_outputs, path_of, see_room,
+};
 use std::alloc::AllocError;
 use std::rt::Files;
 use timeline::Tap;

@@ -1,8 +1,7 @@
 //! The decision lines of a folder.
 use line_stream::{Lines, LinesFault};
 use pcap::stream::Input;
-use program_faults::{Failure, OutputFile, WorkedFailure};
-use program_files::{PartFile, open_part_file};
+use program_files::{Failure, OutputFile, PartFile, WorkedFailure, open_part_file};
 use report_counts::{ReportCounts, ReportLine, read_line};
 use std::io::Read;
 use std::rt::Files;

@@ -1,15 +1,13 @@
 //! The page.
 use crate::lines::{count_lines, moments_of};
 use pcap::stream::{BlockOutput, StdOutput};
-use program_faults::{
-    Failure, OutputFile, SystemFault, Unwritten, UnwrittenFile, WorkedFailure, read_text,
-};
 use program_files::{
-    FILES_OF_A_RUN, FoundFiles, OutputDevice, file_of_run, open_part_file, path_of, place_of,
+    FILES_OF_A_RUN, Failure, FoundFiles, OutputDevice, OutputFile, SystemFault, Unwritten,
+    UnwrittenFile, WorkedFailure, file_of_run, open_part_file, path_of, place_of, read_text,
     see_ended,
 };
 use report_counts::ReportCounts;
-use report_page::write_page;
+use report_page::{RunFolder, write_page};
 use std::alloc::{AllocError, Global};
 use std::fs::{self, OpenOptions};
 use std::path::Path;
@@ -32,8 +30,7 @@ pub fn make_page<'a, R: Files + AllocGlobal>(
     folder: &'a str,
     page: &str,
 ) -> Result<(), Failure<'a>> {
-    let lines = path_of(rt.alloc(), folder, OutputFile::Decisions)?;
-    if fs::metadata(rt, lines.as_path()).is_err() {
+    if !has_file(rt, folder, OutputFile::Decisions)? {
         let lacks = WorkedFailure::Lacks(OutputFile::Decisions);
         return Err(Failure::Worked(folder, lacks));
     }
@@ -43,7 +40,13 @@ pub fn make_page<'a, R: Files + AllocGlobal>(
     let mut counts = ReportCounts::new(rt.alloc(), first, last)?;
     count_lines(rt, folder, &mut counts)?;
     let told = kept_texts(rt, folder)?;
-    match write(rt, &counts, folder, told.as_slice(), page) {
+    let is_part = has_file(rt, folder, OutputFile::PartRecord)?;
+    let folder = RunFolder {
+        name: folder,
+        is_part,
+        told: told.as_slice(),
+    };
+    match write(rt, &counts, folder, page) {
         Ok(()) => Ok(()),
         Err(failure) => Err(failure),
     }
@@ -69,12 +72,21 @@ fn spare<R: Files + AllocGlobal>(rt: &R, folder: &str, page: &str) -> Result<(),
     }
 }
 
+/// Whether a folder has this file.
+fn has_file<R: Files + AllocGlobal>(
+    rt: &R,
+    folder: &str,
+    output: OutputFile,
+) -> Result<bool, AllocError> {
+    let path = path_of(rt.alloc(), folder, output)?;
+    Ok(fs::metadata(rt, path.as_path()).is_ok())
+}
+
 /// What was kept of the texts that a run printed, one behind another.
 fn kept_texts<'a, R: Files + AllocGlobal>(rt: &R, folder: &'a str) -> Result<Vec<u8>, Failure<'a>> {
     let mut texts = Vec::new(rt.alloc());
     for output in KEPT {
-        let path = path_of(rt.alloc(), folder, output)?;
-        if fs::metadata(rt, path.as_path()).is_err() {
+        if !has_file(rt, folder, output)? {
             continue;
         }
         let mut input = open_part_file(rt, folder, output)?;
@@ -90,8 +102,7 @@ fn kept_texts<'a, R: Files + AllocGlobal>(rt: &R, folder: &'a str) -> Result<Vec
 fn write<R: Files + AllocGlobal>(
     rt: &R,
     counts: &ReportCounts,
-    folder: &str,
-    told: &[u8],
+    folder: RunFolder<'_>,
     page: &str,
 ) -> Result<(), Failure<'static>> {
     let opened = OpenOptions::new()
@@ -108,7 +119,7 @@ fn write<R: Files + AllocGlobal>(
     };
     let device = StdOutput::new(OutputDevice::new(file));
     let mut output = BlockOutput::new(rt.alloc(), device, BLOCK)?;
-    let is_written = write_page(counts, folder, told, &mut output).is_ok();
+    let is_written = write_page(counts, folder, &mut output).is_ok();
     let is_handed_on = output.finish().is_ok();
     if is_written && is_handed_on {
         return Ok(());

@@ -3,7 +3,8 @@
 //!
 //! Use first: [`read_line`] reads one line as `decision_lines` writes it; its [`LineFacts`] are an event, whose [`Places`] are
 //! read one by one and in place, or a capture that ends with a cut rest. [`find_parts`] says the same by a place in the line,
-//! for whoever keeps the line and not what is lent of it. No memory is asked for.
+//! for whoever keeps the line and not what is lent of it. No memory is asked for. A [`PartFault`] is what may be wrong with the
+//! lines of a part, or with its captures.
 //!
 //! Specs to read, in order: `specs/Words`, `specs/Sent`, `specs/Facts`, `specs/Parts`, `specs/ReadBack`.
 //!
@@ -22,6 +23,7 @@
 mod facts;
 mod fault;
 mod laws;
+mod part_fault;
 mod parts;
 mod places;
 mod words;
@@ -29,5 +31,6 @@ mod words;
 pub use facts::{LineFacts, read_line};
 pub use fault::LineFault;
 pub use laws::{cuts_read_back, decisions_read_back, replies_read_back};
+pub use part_fault::{PartFault, RecordsFault};
 pub use parts::{LineParts, find_parts};
 pub use places::Places;

@@ -17,7 +17,7 @@ use Rattle.part_merge.specs.Merged.{Piece, capture_at, lines_in}
 use Rattle.part_merge.specs.Moved.{AreRecords, taps}
 use Rattle.part_merge.specs.declared.fault.MergeFault.{MergeFault}
 use Rattle.part_merge.specs.declared.fault.MergeFault.TheVariants as faults
-use Rattle.part_merge.specs.declared.fault.PartFault.TheVariants as part_faults
+use Rattle.part_lines.specs.declared.part_fault.PartFault.TheVariants as part_faults
 use Rattle.part_merge.specs.declared.coming.Coming.{Coming}
 use Rattle.part_merge.specs.declared.coming.Coming.TheVariants as coming
 

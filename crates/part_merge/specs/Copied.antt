@@ -8,8 +8,8 @@ use Rattle.pcap.specs.declared.stream.fault.SourceFault.TheVariants as source
 use Rattle.part_merge.specs.Left.{IsAdded, IsLeft}
 use Rattle.part_merge.specs.declared.capture.Stop.{Stop}
 use Rattle.part_merge.specs.declared.capture.Stop.TheVariants as stops
-use Rattle.part_merge.specs.declared.fault.RecordsFault.{RecordsFault}
-use Rattle.part_merge.specs.declared.fault.RecordsFault.TheVariants as faults
+use Rattle.part_lines.specs.declared.part_fault.RecordsFault.{RecordsFault}
+use Rattle.part_lines.specs.declared.part_fault.RecordsFault.TheVariants as faults
 
 -- what a fault of a source stops a copy by
 abbrev pub stop_by : SourceFault → Stop

@@ -9,7 +9,7 @@ use Rattle.part_merge.specs.declared.capture.Stop.{Stop}
 use Rattle.part_merge.specs.declared.capture.Stop.TheVariants as stops
 use Rattle.part_merge.specs.declared.fault.MergeFault.{MergeFault}
 use Rattle.part_merge.specs.declared.fault.MergeFault.TheVariants as faults
-use Rattle.part_merge.specs.declared.fault.PartFault.TheVariants as part_faults
+use Rattle.part_lines.specs.declared.part_fault.PartFault.TheVariants as part_faults
 use Rattle.part_merge.specs.declared.fault.Target.TheVariants as targets
 
 -- why a merge stops where a record of a capture of a part isn't copied

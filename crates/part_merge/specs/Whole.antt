@@ -13,7 +13,7 @@ use Rattle.part_merge.specs.Left.{AreAdded, IsAdded, UnlessDevice}
 use Rattle.part_merge.specs.Merged.{IsRising, Piece, capture_at, lines_in, merged, records_at}
 use Rattle.part_merge.specs.declared.fault.MergeFault.{MergeFault}
 use Rattle.part_merge.specs.declared.fault.MergeFault.TheVariants as faults
-use Rattle.part_merge.specs.declared.fault.PartFault.TheVariants as part_faults
+use Rattle.part_lines.specs.declared.part_fault.PartFault.TheVariants as part_faults
 
 -- each part holds its pieces and the lines of its cut captures
 pub record AllHold (ports : ℕ) (pieces : List (List Piece)) (cuts : List (List (List ℕ))) (parts : List OpenPart) : Type 0 where

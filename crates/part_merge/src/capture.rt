@@ -7,7 +7,7 @@ ghost use Rattle.part_merge.specs.Copied.{Copies, EndsWith, Opens, TellsEnd, Tel
 ghost use Rattle.part_merge.specs.Left.{IsLeft, IsWritten};
 ghost use Rattle.part_merge.specs.Waiting.{AtRead};
 
-use crate::fault::RecordsFault;
+use part_lines::RecordsFault;
 use pcap::stream::{Input, Output, Sink, Source, SourceFault};
 use std::marker::Model;
 

@@ -4,9 +4,9 @@ ghost use Rattle.part_merge.specs.Blame.{BlamesNoRead, BlamesNoWrite};
 ghost use Rattle.part_merge.specs.Coming.{coming_in, is_cut, is_over, stopped_by};
 ghost use Rattle.part_merge.specs.Told.{IsPlaced, coming_told};
 
-use crate::fault::{MergeFault, PartFault};
+use crate::fault::MergeFault;
 use line_stream::LinesFault;
-use part_lines::{LineParts, find_parts};
+use part_lines::{LineParts, PartFault, find_parts};
 
 /// What a part's next line is of.
 #[derive(Clone, Copy, Debug, PartialEq, Eq)]

@@ -50,6 +50,6 @@ mod part;
 mod records;
 
 pub use capture::PartCapture;
-pub use fault::{MergeFault, PartFault, RecordsFault, Target};
+pub use fault::{MergeFault, Target};
 pub use merge::merge_streams;
 pub use part::Part;

@@ -13,10 +13,11 @@ ghost use Rattle.part_merge.specs.Numbers.{UnlessMissing};
 ghost use Rattle.part_merge.specs.Waiting.{AreOutAtRead, CapturesOut, IsOutAtRead};
 ghost use Rattle.part_merge.specs.Whole.{Adds, AllHold, AllRise, AreParts, HaveAll, OnlyCuts, PutsAll, PutsAt, behind};
 
-use crate::fault::{MergeFault, PartFault, Target};
+use crate::fault::{MergeFault, Target};
 use crate::first::find_first;
 use crate::hand_on::{hand_on_before, hand_on_captures_before};
 use crate::part::Part;
+use part_lines::PartFault;
 use pcap::stream::{Input, Output, Sink};
 use timeline::{RunOutputs, Tap};
 

@@ -20,11 +20,11 @@ ghost use Rattle.part_merge.specs.declared.coming.Coming.TheVariants.{Nothing};
 
 use crate::capture::PartCapture;
 use crate::coming::{Coming, Told, coming_of, is_cut, is_over, stopped_by};
-use crate::fault::{MergeFault, PartFault, Target};
+use crate::fault::{MergeFault, Target};
 use crate::hand_on::{hand_on_captures_before, hand_on_lines_before};
 use crate::records::{Captures, copy_all, end_captures};
 use line_stream::Lines;
-use part_lines::{LineFacts, Places, read_line};
+use part_lines::{LineFacts, PartFault, Places, read_line};
 use pcap::stream::{Input, Output, Sink};
 use std::marker::Model;
 

@@ -12,9 +12,9 @@ ghost use Rattle.part_merge.specs.Merged.{at_tap, records_at};
 ghost use Rattle.part_merge.specs.Waiting.{IsOutAtRead, TakesRead};
 
 use crate::capture::{PartCapture, Stop};
-use crate::fault::{MergeFault, PartFault, Target};
+use crate::fault::{MergeFault, Target};
 use crate::hand_on::hand_on_before;
-use part_lines::Places;
+use part_lines::{PartFault, Places};
 use pcap::stream::{Input, Output, Sink};
 use timeline::Tap;
 

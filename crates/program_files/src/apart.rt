@@ -1,7 +1,7 @@
 //! Outputs told apart from what is read, from each other and from standard output, before one of them is made or emptied.
+use crate::faults::{Failure, OutputFile};
 use crate::found_files::{FoundFiles, Place};
 use crate::outputs::path_of;
-use program_faults::{Failure, OutputFile};
 use std::alloc::{AllocError, Global};
 use std::fs::OpenFile;
 use std::path::Path;

@@ -1,9 +1,9 @@
 //! Outputs that couldn't be written.
 //!
 //! Each of them is told, since the next thing to ask is which of them are whole.
+use crate::faults::{Failure, OutputFile, SystemFault};
 use arrayvec::ArrayVec;
 use part_record::MOST_OUTPUTS;
-use program_faults::{Failure, OutputFile, SystemFault};
 
 /// An output that couldn't be written, and why, where the system told it.
 #[derive(Clone, Copy, Debug, PartialEq, Eq)]

@@ -1,7 +1,7 @@
 //! Files that a line gave up at, looked at once more.
+use crate::faults::SystemFault;
 use pcap::kind::{Head, peek};
 use pcap::stream::StdInput;
-use program_faults::SystemFault;
 use std::fs;
 use std::io::{self, Read};
 use std::rt::Files;

@@ -10,11 +10,11 @@ ghost use Rattle.pcap.specs.Sink.{Drain};
 ghost use Rattle.program_files.specs.Held.{AreHandedOn, AreHeld, IsHeld, handed_on, written};
 
 use crate::failed_outputs::{FailedOutput, FailedOutputs};
+use crate::faults::{Failure, OutputFile};
 use crate::outputs::{OutputFiles, OutputSums, PartRecordFile, Written};
 use arrayvec::ArrayVec;
 use octet_sums::fletcher::OctetSum;
 use pcap::stream::Sink;
-use program_faults::{Failure, OutputFile};
 use std::alloc::{AllocError, Global};
 use std::io::Write;
 use timeline::RunOutputs;

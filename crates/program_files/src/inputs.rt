@@ -12,6 +12,7 @@ ghost use Rattle.program_files.specs.Device.{left_in};
 ghost use Rattle.program_files.specs.Opened.{AreOpened, IsOpened};
 ghost use Rattle.program_files.specs.declared.inputs.Device.{Device as AnyDevice};
 
+use crate::faults::{Failure, OutputFile, WorkedFailure, read_text};
 use crate::mark::see_ended;
 use crate::outputs::path_of;
 use command_line::{STANDARD_INPUT, capture_name};
@@ -19,7 +20,6 @@ use part_record::CountInput;
 use pcap::kind::{FileKind, Peeked, peek};
 use pcap::stream::{Source, StdInput};
 use pcapng_input::{CaptureInput, Selection};
-use program_faults::{Failure, OutputFile, WorkedFailure, read_text};
 use std::alloc::{AllocError, Global};
 use std::fs;
 use std::io::{self, BufReader, Input, Read};

@@ -1,17 +1,25 @@
 //! What the program reads and writes: the texts and captures of a run, the files that it leaves, the files of a part, and what
-//! is printed. Which of them a run takes, and what comes out of it, stands above.
+//! is printed; and why the program gives up. Which files a run takes, and what comes out of it, stands above.
 //!
 //! Use first: [`open_captures`] opens the captures that [`Names`] have, and [`open_outputs`] a run's files in a folder, which
-//! are emptied by [`Opened::emptied`] and end as [`HandedOn`]. [`read_file`] reads a text, and [`print_text`] prints one.
+//! are emptied by [`Opened::emptied`] and end as [`HandedOn`]. [`read_file`] reads a text, and [`print_text`] prints one. A
+//! [`Failure`] prints as one line, [`Failure::status`] is its exit status, and [`exit_code`] that of a
+//! [`RunFault`](capture_run::RunFault).
 //!
-//! Specs to read: `specs/Opened.antt` for captures that were opened, and `specs/Held.antt` for what files hold.
+//! Specs to read: `specs/Opened.antt` for captures that were opened, `specs/Held.antt` for what files hold, `specs/Status.antt`
+//! for exit statuses, and `specs/Text.antt` for texts that are read.
 //!
 //! Proved: each function is safe and ends. Captures that were opened are unread, one of each name, and tell what some file or
 //! standard input has left, as classic pcap. As many outputs are opened, and emptied, as there are ports. Outputs are finished
 //! only where as many as there were hold nothing back, and then their files hold all that was written to them. What is said of
-//! octets is said wherever files tell theirs; what a file of the system, a pipe or a terminal holds isn't proved.
+//! octets is said wherever files tell theirs; what a file of the system, a pipe or a terminal holds isn't proved. Exit statuses
+//! are the stated ones; a text that wasn't read and a part that is wrong are told as such. For every input, a text read is all
+//! that it tells it had left, in at most so many reads; Read is answered only where a read failed or all reads were made.
 //!
 //! Proved besides:
+//! - A [`SystemFault`] has the number that the system told: `SystemFault::of`. It is of too many open files where that is
+//!   24: `SystemFault::is_of_open_files`.
+//! - What was printed is lost where that failed for another reason than that its reader went away: `is_lost`.
 //! - A text that was read is what some file had left, where it tells that: `read_file`. One that isn't named is empty:
 //!   `read_if_given`.
 //! - How many files are open at once, at most, by how many are read and of how many ports outputs are written:
@@ -19,12 +27,13 @@
 //!
 //! Why it is so: the program's work on files stands here and in the crates of single commands, as `runs_on_files`, and
 //! `text_calls` knows octets alone. The system's files tell a contract nothing of what they hold, so what is said of octets is
-//! said of all files that do: the code is one for both.
+//! said of all files that do: the code is one for both. It waits neither for `stream_run` nor for `part_merge` to be proved.
 #![tactic(auto)]
 
 mod apart;
 mod closed_streams;
 mod failed_outputs;
+mod faults;
 mod file_causes;
 mod found_files;
 mod handed_on;
@@ -42,6 +51,11 @@ mod printing;
 pub use apart::Apart;
 pub use closed_streams::ClosedStreams;
 pub use failed_outputs::{FailedOutput, FailedOutputs};
+pub use faults::{
+    DecisionsFault, DigestsFailure, Failure, OneLine, OutputFile, PartFailure, Quoted,
+    SplitFailure, SystemFault, TextFault, Unwritten, UnwrittenFile, WorkedFailure, exit_code,
+    is_lost, read_text,
+};
 pub use file_causes::{head_of_file, read_fault};
 pub use found_files::{Found, FoundFiles, Place, place_of};
 pub use handed_on::HandedOn;

@@ -2,8 +2,8 @@
 //!
 //! It stands there from before an output is emptied or a text of an earlier run removed until all is written. So a folder in
 //! which a run was stopped, by a fault or from outside, is told from one with a run's outputs, whatever stands in them.
+use crate::faults::{Failure, OutputFile};
 use crate::outputs::path_of;
-use program_faults::{Failure, OutputFile};
 use std::alloc::{AllocError, Global};
 use std::fs::{self, OpenOptions};
 use std::path::PathBuf;

@@ -4,7 +4,7 @@
 //! opened for that is the system's empty file, so nothing is read or written.
 ghost use Rattle.std.specs.Prelude.{◌≡◌, ◌<◌, ◌+◌, ◌^◌};
 
-use program_faults::{Failure, OutputFile, SystemFault};
+use crate::faults::{Failure, OutputFile, SystemFault};
 use std::alloc::AllocError;
 use std::fs;
 use std::rt::Files;

@@ -1,7 +1,7 @@
 //! A file that is written, and why a write into it failed.
 ghost use Rattle.std.specs.Prelude.{◌≡◌};
 
-use program_faults::SystemFault;
+use crate::faults::SystemFault;
 use std::io::{self, ErrorKind, Write};
 
 /// A file that is written. It keeps what the system told of the last write that failed.

@@ -7,6 +7,7 @@ ghost use Rattle.pcap.specs.Block.{told};
 ghost use Rattle.program_files.specs.Held.{AreHeld, written};
 
 use crate::apart::{Apart, see_open};
+use crate::faults::{Failure, OutputFile};
 use crate::found_files::FoundFiles;
 use crate::names::Names;
 use crate::output_device::OutputDevice;
@@ -14,7 +15,6 @@ use arrayvec::ArrayVec;
 use octet_sums::fletcher::OctetSum;
 use part_record::{MOST_PORTS, SumOutput};
 use pcap::stream::{BlockOutput, Sink, StdOutput};
-use program_faults::{Failure, OutputFile};
 use std::alloc::{AllocError, Global};
 use std::fs::{self, OpenFile, OpenOptions};
 use std::io::{self, Write};

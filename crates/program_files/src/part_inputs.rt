@@ -1,12 +1,11 @@
 //! What is read of a part of a run: the files in its folder.
+use crate::faults::{Failure, OutputFile};
 use crate::outputs::path_of;
 use line_stream::{Lines, LinesFault};
 use octet_sums::fletcher::OctetSum;
-use part_lines::{LineFacts, Places, read_line};
-use part_merge::PartFault;
+use part_lines::{LineFacts, PartFault, Places, read_line};
 use part_record::{RecordCounts, SumInput};
 use pcap::stream::{Input, StdInput};
-use program_faults::{Failure, OutputFile};
 use std::alloc::AllocError;
 use std::fs;
 use std::io::BufReader;

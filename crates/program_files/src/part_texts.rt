@@ -9,10 +9,10 @@ ghost use Rattle.std.specs.Prelude.{IfOk};
 ghost use Rattle.octet_sums.specs.Sums.{IsSumOf};
 
 use crate::apart::STANDARD_OUTPUT_FILE;
+use crate::faults::{Failure, OutputFile};
 use crate::names::is_same;
 use crate::outputs::path_of;
 use octet_sums::fletcher::OctetSum;
-use program_faults::{Failure, OutputFile};
 use std::fs::{self, OpenOptions};
 use std::io::Write;
 use std::path::Path;

@@ -1,6 +1,6 @@
 //! What is printed on standard output.
+use crate::faults::{Failure, OutputFile, is_lost};
 use json_lines::kinds::{Kind, objects_of};
-use program_faults::{Failure, OutputFile, is_lost};
 use std::io::{self, Write};
 
 /// How lines are printed.

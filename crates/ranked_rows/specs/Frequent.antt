@@ -67,7 +67,8 @@ times_of joined none times xs = times (total joined none xs)
 -- ---- what a table tells of it
 
 -- a row counts all that came of its key from one time on, and what came before isn't more often than it tells
-pub record IsSince {K C : Type 0} (rank : K → ℕ) (joined : C → C → C) (none : C) (times : C → ℕ) (came : List (KeyCount K C)) (row : KeyCount K (Since C)) : Type 0 where
+pub record IsSince {K C : Type 0} (rank : K → ℕ) (joined : C → C → C) (none : C) (times : C → ℕ) (came : List (KeyCount K C))
+    (row : KeyCount K (Since C)) : Type 0 where
   pub before : List (KeyCount K C)
   pub first : KeyCount K C
   pub behind : List (KeyCount K C)
@@ -76,7 +77,8 @@ pub record IsSince {K C : Type 0} (rank : K → ℕ) (joined : C → C → C) (n
   pub few : times_of joined none times before ≤ row.counts.before
 
 -- all rows do
-abbrev pub AreSince : {K C : Type 0} → (K → ℕ) → (C → C → C) → C → (C → ℕ) → List (KeyCount K C) → List (KeyCount K (Since C)) → Type 0
+abbrev pub AreSince : {K C : Type 0} → (K → ℕ) → (C → C → C) → C → (C → ℕ) → List (KeyCount K C) → List (KeyCount K (Since C))
+    → Type 0
 AreSince rank joined none times came [] = ⊤
 AreSince rank joined none times came (row ∷ rows) = IsSince rank joined none times came row × AreSince rank joined none times came rows
 
@@ -97,9 +99,10 @@ beyond times floor (row ∷ rows) = (most_of times row - floor) + beyond times f
 
 -- of all that came a table keeps: rows, of which no two are of one key; neither did a key without one come more often than its
 -- floor, nor that of a row before; 4,000 floors and what the rows count beyond it are no more than all that came; rows and
--- others are all that came. While no more
--- than 4,096 keys come, each has its row from the begin; where more come there are 4,096 rows.
-pub record Keeps {K C : Type 0} (rank : K → ℕ) (joined : C → C → C) (none : C) (times : C → ℕ) (came : List (KeyCount K C)) (t : Frequent K C) : Type 0 where
+-- others are all that came. While no more than 4,096 keys come, each has its row from the begin; where more come there are
+-- 4,096 rows
+pub record Keeps {K C : Type 0} (rank : K → ℕ) (joined : C → C → C) (none : C) (times : C → ℕ) (came : List (KeyCount K C))
+    (t : Frequent K C) : Type 0 where
   pub rising : AreRising rank t.rows
   pub since : AreSince rank joined none times came t.rows
   pub low : AreLow t.floor t.rows
@@ -123,7 +126,8 @@ pub record IsRaised {K C : Type 0} (times : C → ℕ) (rows : List (KeyCount K 
   pub few : (x : ℕ) → old ≤ x → x < new → up_to times x rows < 96
 
 -- the row at a place gives way to one of this key
-pub record GivesWay {K C : Type 0} (rank : K → ℕ) (joined : C → C → C) (times : C → ℕ) (old : List (KeyCount K (Since C))) (floor : ℕ) (more : KeyCount K C) (new : List (KeyCount K (Since C))) (risen : ℕ) (gone : C) : Type 0 where
+pub record GivesWay {K C : Type 0} (rank : K → ℕ) (joined : C → C → C) (times : C → ℕ) (old : List (KeyCount K (Since C)))
+    (floor : ℕ) (more : KeyCount K C) (new : List (KeyCount K (Since C))) (risen : ℕ) (gone : C) : Type 0 where
   pub at : ℕ
   pub there : at < length old
   pub none : HasNone rank (rank more.key) old
@@ -134,7 +138,8 @@ pub record GivesWay {K C : Type 0} (rank : K → ℕ) (joined : C → C → C) (
   pub rows : new ≡ with_counts rank (since_joined joined) more.key (since more.counts risen) (remove old at)
 
 -- more of a key is counted in its row, or it has one from now on, in whose place another may have been
-abbrev pub Puts : {K C : Type 0} → (K → ℕ) → (C → C → C) → (C → ℕ) → List (KeyCount K (Since C)) → ℕ → KeyCount K C → List (KeyCount K (Since C)) → ℕ → Option C → Type 0
+abbrev pub Puts : {K C : Type 0} → (K → ℕ) → (C → C → C) → (C → ℕ) → List (KeyCount K (Since C)) → ℕ → KeyCount K C
+    → List (KeyCount K (Since C)) → ℕ → Option C → Type 0
 Puts rank joined times old floor more new risen None =
     (new ≡ with_counts rank (since_joined joined) more.key (since more.counts floor) old) × (risen ≡ floor) × (length new ≤ 4096)
 Puts rank joined times old floor more new risen (Some gone) = GivesWay rank joined times old floor more new risen gone

@@ -98,6 +98,14 @@ index-link gone ks ends i x h inside same more none few = record {
 
 -- ---- a record was received
 
+-- the last record of a bucket stays the same
+last-without : (gone number next : ℕ) (e : Ends) → (ends_without gone number next e).last ≡ e.last
+last-without gone number next e = by (eqb (max e.first (gone + 1)) number) refl
+  where
+    by : (q : Bool) → eqb (max e.first (gone + 1)) number ≡ q → (ends_without gone number next e).last ≡ e.last
+    by true h = rw h refl
+    by false h = rw h refl
+
 -- none between the first number and that behind one that was received
 first-without : (gone : ℕ) (ks : List Kept) (b number next : ℕ) (e : Ends) → ((i : ℕ) (d : Kept) → i < length ks → gone + i + 1 ≡ number → (get_or ks i d).is_taken ≡ true)
     → NoneBetween gone ks b 0 e.first → NoneBetween gone ks b number next → NoneBetween gone ks b 0 (ends_without gone number next e).first
@@ -134,13 +142,6 @@ index-take gone ks ends i x e h inside same next taken few =
       next = linked.next;
       known = linked.known;
     }
-  where
-    last-without : (gone number next : ℕ) (e : Ends) → (ends_without gone number next e).last ≡ e.last
-    last-without gone number next e = by (eqb (max e.first (gone + 1)) number) refl
-      where
-        by : (q : Bool) → eqb (max e.first (gone + 1)) number ≡ q → (ends_without gone number next e).last ≡ e.last
-        by true h = rw h refl
-        by false h = rw h refl
 
 -- ---- the first record goes
 
@@ -155,18 +156,11 @@ index-drop gone k ks ends e h few =
     record {
       first = at-set (λ b (y : Ends). NoneBetween (gone + 1) ks b 0 y.first) ends b x (λ a e lt _. between-drop gone k ks a 0 (get_or ends a e).first (h.first a e lt)) (first-dropped (get_or ends b e) (h.first b e few));
       last = at-set (λ b (y : Ends). NoneBehind (gone + 1) ks b y.last) ends b x (λ a e lt _. λ i d l lo hi is. h.last a e lt (suc i) d (omega (arith, l)) (omega (arith, lo)) (omega (arith, hi)) is)
-          (λ i d l lo hi is. h.last b e few (suc i) d (omega (arith, l)) (omega (arith, lo, last-without (get_or ends b e))) (omega (arith, hi)) is);
+          (λ i d l lo hi is. h.last b e few (suc i) d (omega (arith, l)) (omega (arith, lo, last-without gone (gone + 1) k.next (get_or ends b e))) (omega (arith, hi)) is);
       next = λ j d lt. λ i dd l lo hi is. h.next (suc j) d (omega (arith, lt)) (suc i) dd (omega (arith, l)) (omega (arith, lo)) (omega (arith, hi)) is;
       known = λ j d lt. omega (arith, h.known (suc j) d (omega (arith, lt)));
     }
   where
-    last-without : (y : Ends) → (ends_without gone (gone + 1) k.next y).last ≡ y.last
-    last-without y = by (eqb (max y.first (gone + 1)) (gone + 1)) refl
-      where
-        by : (q : Bool) → eqb (max y.first (gone + 1)) (gone + 1) ≡ q → (ends_without gone (gone + 1) k.next y).last ≡ y.last
-        by true h = rw h refl
-        by false h = rw h refl
-
     first-dropped : (y : Ends) → NoneBetween gone (k ∷ ks) k.bucket 0 y.first → NoneBetween (gone + 1) ks k.bucket 0 (ends_without gone (gone + 1) k.next y).first
     first-dropped y before = by (eqb (max y.first (gone + 1)) (gone + 1)) refl
       where

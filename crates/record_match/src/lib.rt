@@ -33,7 +33,7 @@
 //! Why it is so: octets alone, and how many are missing, decide what is the same; a hash only says where to look, so it is a
 //! plain sum of 64-bit words, which is cheap. A window knows of each bucket the first and the last record, and of each record the
 //! next one of its bucket. What is proved of these numbers is only that no record between them is looked for; so they may be out
-//! of date, and nothing is written where a record goes.
+//! of date, and where a record goes that isn't the first of its bucket nothing is written.
 #![tactic(auto)]
 
 mod bucket;

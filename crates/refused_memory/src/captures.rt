@@ -3,7 +3,7 @@ use crate::answer::Answer;
 use pcap::stream::{DeviceFault, Input, Source, StdInput};
 use pcap::text::{put_header, put_record};
 use pcapng_input::{CaptureInput, PcapngError, Selection, classic_of};
-use program_faults::{TextFault, read_text};
+use program_files::{TextFault, read_text};
 use std::alloc::Global;
 use std::test::Fail;
 use test_inputs::memory::request;

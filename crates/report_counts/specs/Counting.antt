@@ -2,14 +2,16 @@
 -- they were. It states no standard.
 --     no_counts      before the first line
 --     counted      one line more
-use Rattle.std.specs.Prelude.{ℕ, List, [], fold, take}
+use Rattle.std.specs.Prelude.{ℕ, List, fold, take}
 use Rattle.report_counts.specs.Tables.{added, with_more, zeros}
 use Rattle.report_counts.specs.Outcomes.{Told}
-use Rattle.report_counts.specs.Places.{mark_of}
+use Rattle.report_counts.specs.Places.{mark_of, source_number}
 use Rattle.report_counts.specs.Outlets.{no_outlets, row_of, with_passage}
 use Rattle.report_counts.specs.Rows.{no_pairs, no_reasons, no_segments, no_sources, with_drop_for, with_drop_in, with_event_from}
 use Rattle.report_counts.specs.Rows.{with_event_in, with_pair, with_sent_in, with_unsent_for}
-use Rattle.report_counts.specs.Drops.{with_drop}
+use Rattle.report_counts.specs.Firsts.{none_yet, with_first}
+use Rattle.timeline.specs.declared.source.Source.TheVariants as sources
+use Rattle.timeline.specs.declared.source.Tap.{Tap}
 use Rattle.report_counts.specs.declared.counts.ReportCounts.{ReportCounts}
 use Rattle.report_counts.specs.declared.drops.FirstDrop.{FirstDrop}
 use Rattle.report_counts.specs.declared.line.EventLine.{EventLine}
@@ -36,7 +38,8 @@ no_counts first last = record {
   segments = no_segments;
   reasons = no_reasons;
   pairs = no_pairs;
-  first_drops = [];
+  first_drops = none_yet 41;
+  cuts = none_yet 257;
 }
 
 -- one more of a count
@@ -53,7 +56,7 @@ with_coming mark c = record c {
   segments = with_event_in mark.segment mark.span c.segments;
 }
 
--- what is told of an event that was dropped
+-- what is told of the first event for which a reason was met
 abbrev pub drop_of : EventLine → ℕ → FirstDrop
 drop_of e reason = record {
   event = e.event;
@@ -70,7 +73,7 @@ with_drop_at mark e reason c = record c {
   dropped = one_more c.dropped;
   segments = with_drop_in mark.segment mark.span c.segments;
   reasons = with_drop_for mark.segment reason mark.span c.reasons;
-  first_drops = with_drop (drop_of e reason) c.first_drops;
+  first_drops = with_first reason (drop_of e reason) c.first_drops;
 }
 
 -- ---- outcomes
@@ -84,35 +87,36 @@ with_sent mark outlet octets c = record c {
 }
 
 -- it didn't leave, for a reason
-unfoldable pub with_unsent : Mark → ℕ → ReportCounts → ReportCounts
-with_unsent mark reason c = record c {
+unfoldable pub with_unsent : Mark → EventLine → ℕ → ReportCounts → ReportCounts
+with_unsent mark e reason c = record c {
   unsent = one_more c.unsent;
   reasons = with_unsent_for mark.segment reason mark.span c.reasons;
+  first_drops = with_first reason (drop_of e reason) c.first_drops;
 }
 
 -- either of them, at the outlet of a row
-abbrev pub with_fate : Mark → ℕ → Passage → ReportCounts → ReportCounts
-with_fate mark outlet (Left octets) c = with_sent mark outlet octets c
-with_fate mark outlet (Unsent reason) c = with_unsent mark reason c
+abbrev pub with_fate : Mark → EventLine → ℕ → Passage → ReportCounts → ReportCounts
+with_fate mark e outlet (Left octets) c = with_sent mark outlet octets c
+with_fate mark e outlet (Unsent reason) c = with_unsent mark e reason c
 
 -- a place's outlet counts it
 abbrev pub with_outlet : Mark → Told → ReportCounts → ReportCounts
 with_outlet mark o c = record c { outlets = with_passage o.place o.passage mark.span c.outlets }
 
 -- what came of a frame at a place
-unfoldable pub with_leaving : Mark → Told → ReportCounts → ReportCounts
-with_leaving mark o c =
-    with_fate mark (row_of (take 55 o.place) (with_outlet mark o c).outlets.names) o.passage (with_outlet mark o c)
+unfoldable pub with_leaving : Mark → EventLine → Told → ReportCounts → ReportCounts
+with_leaving mark e o c =
+    with_fate mark e (row_of (take 55 o.place) (with_outlet mark o c).outlets.names) o.passage (with_outlet mark o c)
 
 -- at each of its places
-abbrev pub with_outcomes : Mark → List Told → ReportCounts → ReportCounts
-with_outcomes mark outcomes c = fold (λ counts o. with_leaving mark o counts) c outcomes
+abbrev pub with_outcomes : Mark → EventLine → List Told → ReportCounts → ReportCounts
+with_outcomes mark e outcomes c = fold (λ counts o. with_leaving mark e o counts) c outcomes
 
 -- ---- lines
 
 -- what came of an event
 abbrev pub with_result : Mark → EventLine → Outcome → ReportCounts → ReportCounts
-with_result mark e (Sent outcomes) c = with_outcomes mark outcomes c
+with_result mark e (Sent outcomes) c = with_outcomes mark e outcomes c
 with_result mark e (Dropped reason) c = with_drop_at mark e reason c
 with_result mark e Done c = record c { done = one_more c.done }
 with_result mark e (Refused cause) c = record c { refused = added cause 1 c.refused }
@@ -125,7 +129,11 @@ with_answer mark e c = with_result mark e e.result c
 abbrev pub with_event : EventLine → ReportCounts → ReportCounts
 with_event e c = with_answer (mark_of c.stretch e) e (with_coming (mark_of c.stretch e) c)
 
--- one line more; that of a cut capture counts nothing
+-- a capture is cut behind so many whole records
+abbrev pub with_cut : Tap → ℕ → ReportCounts → ReportCounts
+with_cut tap records c = record c { cuts = with_first (source_number (sources.Tap tap)) records c.cuts }
+
+-- one line more; that of a cut capture tells how many whole records it has
 abbrev pub counted : ReportLine → ReportCounts → ReportCounts
 counted (Event e) c = with_event e c
-counted (Cut tap records) c = c
+counted (Cut tap records) c = with_cut tap records c

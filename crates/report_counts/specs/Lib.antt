@@ -4,6 +4,6 @@ pub mod Lines
 pub mod Places
 pub mod Outlets
 pub mod Rows
-pub mod Drops
+pub mod Firsts
 pub mod Counting
 pub mod ReadBack

@@ -55,17 +55,17 @@ with_drop_in segment span s =
 
 -- none was met yet
 abbrev pub no_reasons : Reasons
-no_reasons = record { dropped = zero_rows 41 4095; unsent = zero_rows 41 4095; spans = zero_rows 64 41 }
+no_reasons = record { dropped = zero_rows 41 4095; unsent = zero_rows 41 4095; spans = zero_rows 64 41; all = zeros 41 }
 
 -- one event more in a segment that was dropped for a reason
 abbrev pub with_drop_for : ℕ → ℕ → ℕ → Reasons → Reasons
 with_drop_for segment reason span r =
-    record r { dropped = added_in segment reason 1 r.dropped; spans = added_in reason span 1 r.spans }
+    record r { dropped = added_in segment reason 1 r.dropped; spans = added_in reason span 1 r.spans; all = added reason 1 r.all }
 
 -- one outcome more in a segment that wasn't sent for a reason
 abbrev pub with_unsent_for : ℕ → ℕ → ℕ → Reasons → Reasons
 with_unsent_for segment reason span r =
-    record r { unsent = added_in segment reason 1 r.unsent; spans = added_in reason span 1 r.spans }
+    record r { unsent = added_in segment reason 1 r.unsent; spans = added_in reason span 1 r.spans; all = added reason 1 r.all }
 
 -- ---- sources and outlets
 

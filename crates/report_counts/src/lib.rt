@@ -2,10 +2,11 @@
 //!
 //! Use first: [`read_line`] reads a decision line as a [`ReportLine`], or tells why it is none, and [`ReportCounts`] counts such
 //! lines: events by where they came from, what left at each outlet, segments, reasons of drops, who sent to whom, each over 64
-//! spans of time too, and the first hundred drops. All memory is asked for when the counts are made.
+//! spans of time too, the first event of each reason, and which captures are cut. All memory is asked for when the counts are
+//! made.
 //!
 //! Specs to read, in order: `specs/Tables`, `specs/Outcomes`, `specs/Lines`, `specs/Places`, `specs/Outlets`, `specs/Rows`,
-//! `specs/Drops`, `specs/Counting`, `specs/ReadBack`.
+//! `specs/Firsts`, `specs/Counting`, `specs/ReadBack`.
 //!
 //! Proved: a line tells exactly what the definition has of its fields, or the first of them that is none; each line counts one
 //! more at the places that it tells, up to 2^64 - 1, and leaves all other counts as they were; and what is told is what was
@@ -30,6 +31,7 @@ mod answer;
 mod counts;
 mod drops;
 mod fault;
+mod firsts;
 mod laws;
 mod line;
 mod mark;

@@ -42,7 +42,7 @@ impl Stretch {
 }
 
 /// The number of a source: 0 for the changes, that of a port, 256 for the underlay.
-fn source_number(source: Source) -> usize
+pub(crate) fn source_number(source: Source) -> usize
     ensures { result ≡ source_number source }
 {
     match source {

@@ -2,7 +2,7 @@
 ghost use Rattle.std.specs.Prelude.{◌≡◌, IfOk};
 ghost use Rattle.report_counts.specs.Rows.{no_reasons, with_drop_for, with_unsent_for};
 
-use crate::table::Table;
+use crate::table::{Table, Tally};
 use std::alloc::{AllocError, Global};
 
 /// How often each reason was met, by its number from 1 to 40.
@@ -14,6 +14,8 @@ pub(crate) struct Reasons {
     pub unsent: Table<41>,
     /// Both, a row for each reason and in it a column for each span.
     pub spans: Table<64>,
+    /// Both, in all spans and segments.
+    pub all: Tally,
 }
 
 impl Reasons {
@@ -24,10 +26,12 @@ impl Reasons {
         let dropped = Table::new(alloc, 4095)?;
         let unsent = Table::new(alloc, 4095)?;
         let spans = Table::new(alloc, 41)?;
+        let all = Tally::new(alloc, 41)?;
         Ok(Reasons {
             dropped,
             unsent,
             spans,
+            all,
         })
     }
 
@@ -37,6 +41,7 @@ impl Reasons {
     {
         self.dropped.add(segment, usize::from(reason), 1);
         self.spans.add(usize::from(reason), span, 1);
+        self.all.add(usize::from(reason), 1);
     }
 
     /// Counts an outcome that wasn't sent.
@@ -45,5 +50,6 @@ impl Reasons {
     {
         self.unsent.add(segment, usize::from(reason), 1);
         self.spans.add(usize::from(reason), span, 1);
+        self.all.add(usize::from(reason), 1);
     }
 }

@@ -1,5 +1,5 @@
 //! What was counted.
-ghost use Rattle.std.specs.Prelude.{◌≡◌, length, slice_index};
+ghost use Rattle.std.specs.Prelude.{◌≡◌, None, length, slice_index, slice_index_or};
 ghost use Rattle.report_counts.specs.Outlets.{name_of, outlet_of};
 ghost use Rattle.report_counts.specs.Rows.{pair_of, segment_of};
 ghost use Rattle.report_counts.specs.Tables.{count_in};
@@ -163,10 +163,24 @@ impl ReportCounts {
         self.pairs.at(source, outlet)
     }
 
-    /// The first hundred events that were dropped.
-    pub fn first_drops(&self) -> &[FirstDrop]
-        ensures { result.now ≡ self.now.first_drops }
+    /// How often the reason of this number was met in all segments: events that were dropped, and outcomes that weren't sent.
+    pub fn reason(&self, reason: u8) -> u64
+        ensures { result ≡ slice_index self.now.reasons.all reason }
     {
-        self.first_drops.all()
+        self.reasons.all.get(usize::from(reason))
+    }
+
+    /// The first event for which the reason of this number was met.
+    pub fn first_drop(&self, reason: u8) -> Option<FirstDrop>
+        ensures { result ≡ slice_index_or self.now.first_drops reason None }
+    {
+        self.first_drops.get(usize::from(reason))
+    }
+
+    /// How many whole records the capture of a source has, 1 to 255 for the ports, 256 for the underlay, where it is cut.
+    pub fn cut(&self, source: usize) -> Option<u64>
+        ensures { result ≡ slice_index_or self.now.cuts source None }
+    {
+        self.cuts.get(source)
     }
 }

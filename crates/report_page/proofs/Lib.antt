@@ -1,5 +1,6 @@
 pub mod Written
 pub mod Numbers
+pub mod Ordered
 pub mod Dates
 pub mod FirstLine
 pub mod Rows

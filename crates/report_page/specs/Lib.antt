@@ -1,13 +1,17 @@
 pub mod Texts
 pub mod Escaped
 pub mod Moment
+pub mod Duration
 pub mod Written
 pub mod Path
 pub mod Series
 pub mod Picture
+pub mod Order
+pub mod Reasons
 pub mod Facts
 pub mod OverTime
 pub mod Places
+pub mod Short
 pub mod Segments
 pub mod Drops
 pub mod FirstDrops

@@ -7,6 +7,7 @@ use Rattle.report_counts.specs.declared.mark.Stretch.{Stretch}
 use Rattle.report_page.specs.declared.series.Kind.TheVariants.{All, Arrival}
 use Rattle.report_page.specs.declared.series.Parted.TheVariants.{Ports, LocalOutlets, RemoteOutlets, Segments}
 use Rattle.report_page.specs.declared.over_time.TheConstants.{TIME_HEAD, CAME_HEAD, LEFT_HEAD, DROPPED_HEAD, SPANS_HEAD, SPANS_END}
+use Rattle.report_page.specs.Duration.{duration_text}
 use Rattle.report_page.specs.Picture.{bars_picture, stacked_picture}
 use Rattle.report_page.specs.Series.{number_at, sum_of}
 use Rattle.report_page.specs.Texts.{◌then◌, each}
@@ -30,7 +31,7 @@ span_row c span =
 -- three pictures and their numbers
 unfoldable pub over_time : ReportCounts → List ℕ
 over_time c =
-    TIME_HEAD.now then decimal (width c.stretch) then codes " ns each.</p>\n"
+    TIME_HEAD.now then duration_text (width c.stretch) then codes ".</p>\n"
     then CAME_HEAD.now then stacked_picture (codes "What came") c (All Ports) (Arrival 256)
     then LEFT_HEAD.now then stacked_picture (codes "What left") c (All LocalOutlets) (All RemoteOutlets)
     then DROPPED_HEAD.now then bars_picture (codes "What was dropped") (codes "c") c (All Segments)

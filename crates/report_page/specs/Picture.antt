@@ -1,7 +1,9 @@
 -- Pictures of series (SVG 2): bars, two series of bars one above the other, and lines. It states no standard of its own.
 use Rattle.std.specs.Prelude.{ℕ, List, codes, decimal}
 use Rattle.report_counts.specs.declared.counts.ReportCounts.{ReportCounts}
+use Rattle.report_counts.specs.declared.mark.Stretch.{Stretch}
 use Rattle.report_page.specs.declared.series.Kind.{Kind}
+use Rattle.report_page.specs.Moment.{moment_text}
 use Rattle.report_page.specs.Path.{bar_text, height_of, point_text}
 use Rattle.report_page.specs.Series.{greatest, number_at, sum_of}
 use Rattle.report_page.specs.Texts.{◌then◌, each}
@@ -45,18 +47,30 @@ path_text colour shape = codes "<path class=\"" then colour then codes "\" d=\""
 abbrev pub polyline_text : List ℕ → List ℕ
 polyline_text points = codes "<polyline points=\"" then points then codes "\"/>"
 
+-- what stands above a picture, the greatest of its numbers, and below it, the first and the last moment
+abbrev pub scale_text : ℕ → List ℕ
+scale_text most = codes "<p class=\"scale\">" then decimal most then codes " at most</p>\n"
+
+abbrev pub axis_text : Stretch → List ℕ
+axis_text stretch =
+    codes "</svg>\n<p class=\"axis\"><span>" then moment_text stretch.first then codes "</span> <span>" then moment_text stretch.last
+    then codes "</span></p>"
+
 -- a picture of bars
 unfoldable pub bars_picture : List ℕ → List ℕ → ReportCounts → Kind → List ℕ
 bars_picture title colour c kind =
-    picture_head (codes "bars") title (codes "Bars, one for each of the 64 spans.")
-    then path_text colour (bars_text c kind (greatest (numbers_of c kind) 64)) then codes "</svg>"
+    let most = greatest (numbers_of c kind) 64 in
+    scale_text most then picture_head (codes "bars") title (codes "Bars, one for each of the 64 spans.")
+    then path_text colour (bars_text c kind most) then axis_text c.stretch
 
 -- a picture of two series, one above the other
 unfoldable pub stacked_picture : List ℕ → ReportCounts → Kind → Kind → List ℕ
 stacked_picture title c lower upper =
     let most = greatest (sums_of c lower upper) 64 in
-    picture_head (codes "bars") title (codes "Bars of two series, one above the other, for each of the 64 spans.")
-    then path_text (codes "a") (bars_text c lower most) then path_text (codes "b") (upper_text c lower upper most) then codes "</svg>"
+    scale_text most
+    then picture_head (codes "bars") title (codes "Bars of two series, one above the other, for each of the 64 spans.")
+    then path_text (codes "a") (bars_text c lower most) then path_text (codes "b") (upper_text c lower upper most)
+    then axis_text c.stretch
 
 -- what a small picture begins with, and what it ends with: its numbers
 abbrev pub spark_head : ReportCounts → Kind → List ℕ

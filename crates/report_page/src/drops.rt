@@ -1,22 +1,24 @@
 //! What was dropped and refused, and why.
-ghost use Rattle.std.specs.Prelude.{◌≡◌, Some, [], map, slice_get, slice_index_or};
-ghost use Rattle.report_page.specs.Drops.{cause_cells, cause_row, drop_cells, drop_row, drops_text, limit_mark, met, met_in_all};
-ghost use Rattle.report_page.specs.Drops.{reason_name, reason_row, segment_drops, sentence_of, told_text};
+ghost use Rattle.std.specs.Prelude.{◌≡◌, Some};
+ghost use Rattle.report_page.specs.Drops.{cause_cells, cause_row, drop_cells, drop_row, drops_text, limit_mark, met};
+ghost use Rattle.report_page.specs.Drops.{reason_drops, reason_row};
+ghost use Rattle.report_page.specs.Reasons.{reason_at};
 ghost use Rattle.report_page.specs.Segments.{segment_at};
 
-use crate::each::{Each, EachOf, Parts};
+use crate::each::{EachOf, Parts};
+use crate::order::largest;
 use crate::over_time::NumberCell;
 use crate::picture::SmallBarsCell;
-use crate::reasons::SENTENCES;
+use crate::reason_order::{reason_at, reason_name, reasons_in_order, sentence_of};
 use crate::segments::{SegmentWord, segment_at};
-use crate::series::{Kind, SPANS, Series, sum_of, together};
+use crate::series::{Kind, Numbers, Series, sum_of};
 use endpoint_core::state::{CHANGE_FAULTS, ChangeFault};
 use report_counts::ReportCounts;
 use std::fmt;
-use wire::ether::{REASONS, Reason};
 
 const DROPS_HEAD: &str = "<section aria-labelledby=\"drops\">\n<h2 id=\"drops\">Drops</h2>\n\
-    <p>Why frames and packets were dropped, or weren't sent at an outlet (39 and 40), and what to look at.</p>\n\
+    <p>Why frames and packets were dropped, or weren't sent at an outlet (39 and 40), and what to look at: the reason \
+    that was met most first, and of each the forty segments where it was met most.</p>\n\
     <div class=\"wide\" role=\"region\" aria-label=\"Drops by segment and reason\" tabindex=\"0\"><table>\n\
     <thead><tr><th scope=\"col\">Segment</th><th scope=\"col\" class=\"n\">No.</th><th scope=\"col\">Reason</th>\
     <th scope=\"col\" class=\"n\">Count</th><th scope=\"col\">What it means</th></tr></thead>\n<tbody>\n";
@@ -40,49 +42,6 @@ fn met(counts: &ReportCounts, vid: u16, reason: u8) -> u64
 {
     let vid = usize::from(vid);
     sum_of(counts.dropped(vid, reason), counts.unsent_by(vid, reason))
-}
-
-/// How often a reason was met in all spans.
-fn met_in_all(counts: &ReportCounts, reason: u8) -> u64
-    ensures { result ≡ met_in_all counts.now reason }
-{
-    together(&Series(counts, Kind::Reason(reason)), SPANS)
-}
-
-/// The text of a place in a table; nothing behind its end.
-fn text_in(texts: &[&'static str], place: u16) -> &'static str
-    ensures { result.now ≡ slice_index_or (map told_text texts.now) place [] }
-{
-    match texts.get(usize::from(place)) {
-        Some(text) => *text,
-        None => "",
-    }
-}
-
-/// What the reason of a number means.
-#[tactic(auto, unfolding(crate::specs::Drops::sentence_of))]
-fn sentence_of(number: u8) -> &'static str
-    ensures { result.now ≡ sentence_of number }
-{
-    text_in(&SENTENCES, u16::from(number).saturating_sub(1))
-}
-
-/// The reason of a place in a table; none behind its end.
-fn reason_in(reasons: &[Reason], place: u16) -> Option<Reason>
-    ensures { result ≡ slice_get reasons.now place }
-{
-    reasons.get(usize::from(place)).copied()
-}
-
-/// The name of the reason of a number; of none of them nothing.
-#[tactic(auto, unfolding(crate::specs::Drops::reason_name))]
-pub(crate) fn reason_name(number: u8) -> &'static str
-    ensures { result.now ≡ reason_name number }
-{
-    match reason_in(&REASONS, u16::from(number).saturating_sub(1)) {
-        Some(reason) => reason.name(),
-        None => "",
-    }
 }
 
 /// The cells of a reason in a segment.
@@ -112,67 +71,70 @@ impl fmt::Display for DropCells {
     }
 }
 
-/// The rows of the reasons that were met in a segment.
+/// The rows of a reason, each of a segment.
 #[derive(Clone, Copy)]
-struct DropsOf<'a> {
+struct DropsFor<'a> {
     counts: &'a ReportCounts,
-    vid: u16,
+    reason: u8,
 }
 
-impl<'a> Parts<Reason> for DropsOf<'a> {
-    ghost part = { λ rows reason. drop_row rows.counts.now rows.vid reason };
+impl<'a> Parts<u16> for DropsFor<'a> {
+    ghost part = { λ rows place. drop_row rows.counts.now (segment_at place) rows.reason };
 
     #[tactic(auto, unfolding(crate::specs::Drops::drop_row))]
-    fn put<W: fmt::Write>(&self, reason: Reason, f: &mut fmt::Formatter<W>) -> fmt::Result {
-        let number = reason.number();
-        let count = met(self.counts, self.vid, number);
-        if count == 0 {
-            return Ok(());
-        }
+    fn put<W: fmt::Write>(&self, place: u16, f: &mut fmt::Formatter<W>) -> fmt::Result {
+        let vid = segment_at(place);
         let cells = DropCells {
-            vid: self.vid,
-            number: u64::from(number),
-            name: reason.name(),
-            count,
-            sentence: sentence_of(number),
+            vid,
+            number: u64::from(self.reason),
+            name: reason_name(self.reason),
+            count: met(self.counts, vid, self.reason),
+            sentence: sentence_of(self.reason),
         };
         write!(f, "{cells}")
     }
 }
 
-/// The rows of all segments.
+/// How often a reason was met in each segment.
+impl<'a> Numbers for DropsFor<'a> {
+    ghost number = { λ drops place. met drops.counts.now (segment_at place) drops.reason };
+
+    fn number(&self, place: u16) -> u64 {
+        met(self.counts, segment_at(place), self.reason)
+    }
+}
+
+/// The rows of reasons, each of the segments in which it was met most.
 #[derive(Clone, Copy)]
 struct DropRows<'a>(&'a ReportCounts);
 
 impl<'a> Parts<u16> for DropRows<'a> {
-    ghost part = { λ rows place. segment_drops rows.0.now (segment_at place) };
+    ghost part = { λ rows place. reason_drops rows.0.now (reason_at place) };
 
+    #[tactic(auto, unfolding(crate::specs::Drops::reason_drops))]
     fn put<W: fmt::Write>(&self, place: u16, f: &mut fmt::Formatter<W>) -> fmt::Result {
-        let drops = DropsOf {
+        let drops = DropsFor {
             counts: self.0,
-            vid: segment_at(place),
+            reason: reason_at(place),
         };
-        let rows = EachOf(drops, &REASONS);
+        let segments = largest(&drops, 4095);
+        let rows = EachOf(drops, segments.as_slice());
         write!(f, "{rows}")
     }
 }
 
-/// The rows of the reasons that were met at all.
+/// The rows of reasons over time.
 #[derive(Clone, Copy)]
 struct ReasonRows<'a>(&'a ReportCounts);
 
-impl<'a> Parts<Reason> for ReasonRows<'a> {
-    ghost part = { λ rows reason. reason_row rows.0.now reason };
+impl<'a> Parts<u16> for ReasonRows<'a> {
+    ghost part = { λ rows place. reason_row rows.0.now (reason_at place) };
 
     #[tactic(auto, unfolding(crate::specs::Drops::reason_row))]
-    fn put<W: fmt::Write>(&self, reason: Reason, f: &mut fmt::Formatter<W>) -> fmt::Result {
-        let number = reason.number();
-        let count = met_in_all(self.0, number);
-        if count == 0 {
-            return Ok(());
-        }
-        let name = reason.name();
-        let count = NumberCell(count);
+    fn put<W: fmt::Write>(&self, place: u16, f: &mut fmt::Formatter<W>) -> fmt::Result {
+        let number = reason_at(place);
+        let name = reason_name(number);
+        let count = NumberCell(self.0.reason(number));
         let bars = SmallBarsCell("c", Series(self.0, Kind::Reason(number)));
         write!(
             f,
@@ -257,8 +219,10 @@ impl<'a> fmt::Display for Drops<'a> {
 
     #[tactic(auto, unfolding(crate::specs::Drops::drops_text))]
     fn fmt<W: fmt::Write>(&self, f: &mut fmt::Formatter<W>) -> fmt::Result {
-        let drops = Each(DropRows(self.0), 4095);
-        let reasons = EachOf(ReasonRows(self.0), &REASONS);
+        let order = reasons_in_order(self.0);
+        let places = order.as_slice();
+        let drops = EachOf(DropRows(self.0), places);
+        let reasons = EachOf(ReasonRows(self.0), places);
         let causes = EachOf(CauseRows(self.0), &CHANGE_FAULTS);
         write!(
             f,

@@ -1,8 +1,9 @@
 //! What is told first.
 ghost use Rattle.std.specs.Prelude.{◌≡◌, ◌%◌, Some, slice_index};
-ghost use Rattle.report_page.specs.Facts.{fact_text, facts_text, moment_fact, refused_all};
+ghost use Rattle.report_page.specs.Facts.{dropped_fact, fact_text, facts_text, moment_fact, refused_all};
 
 use crate::moment::Moment;
+use crate::path::height_of;
 use crate::series::{Numbers, together};
 use report_counts::ReportCounts;
 use std::fmt;
@@ -41,6 +42,29 @@ impl fmt::Display for MomentFact {
     }
 }
 
+/// How many were dropped, and which share of what came.
+#[derive(Clone, Copy)]
+struct DroppedFact {
+    dropped: u64,
+    came: u64,
+}
+
+impl fmt::Display for DroppedFact {
+    ghost output = { λ fact. Some (dropped_fact fact.dropped fact.came) };
+
+    #[tactic(auto, unfolding(crate::specs::Facts::dropped_fact))]
+    fn fmt<W: fmt::Write>(&self, f: &mut fmt::Formatter<W>) -> fmt::Result {
+        let dropped = self.dropped;
+        let came = self.came;
+        let whole = height_of(came, dropped) / 10;
+        let tenth = height_of(came, dropped) % 10;
+        write!(
+            f,
+            "<div><dt>Dropped</dt><dd>{dropped}<small>{whole}.{tenth} % of {came} that came</small></dd></div>\n"
+        )
+    }
+}
+
 /// How many changes were refused for each cause.
 #[derive(Clone, Copy)]
 struct Refused<'a>(&'a ReportCounts);
@@ -73,14 +97,17 @@ impl<'a> fmt::Display for Facts<'a> {
         let events = Fact("Events", counts.events());
         let first = MomentFact("First moment", counts.first());
         let last = MomentFact("Last moment", counts.last());
-        let sent = Fact("Sent", counts.sent());
+        let sent = Fact("Frames and packets that left", counts.sent());
         let unsent = Fact("Not sent at an outlet", counts.unsent());
-        let dropped = Fact("Dropped", counts.dropped_all());
+        let dropped = DroppedFact {
+            dropped: counts.dropped_all(),
+            came: counts.events().saturating_sub(counts.came(0)),
+        };
         let done = Fact("Changes done", counts.done());
         let refused = Fact("Changes refused", refused_all(counts));
         write!(
             f,
-            "<dl>\n{events}{first}{last}{sent}{unsent}{dropped}{done}{refused}</dl>\n"
+            "<dl>\n{events}{sent}{dropped}{unsent}{done}{refused}{first}{last}</dl>\n"
         )
     }
 }

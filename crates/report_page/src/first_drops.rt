@@ -1,16 +1,17 @@
 //! The first events that were dropped.
 ghost use Rattle.std.specs.Prelude.{Some};
-ghost use Rattle.report_page.specs.FirstDrops.{first_cells, first_drops_text, first_row, moment_cells, record_word, vid_text};
+ghost use Rattle.report_page.specs.FirstDrops.{first_cells, first_drops_text, first_of, first_row, moment_cells, record_word, vid_text};
 
-use crate::drops::reason_name;
 use crate::each::{EachOf, Parts};
 use crate::moment::Moment;
 use crate::over_time::NumberCell;
+use crate::reason_order::{reason_at, reason_name, reasons_in_order};
 use report_counts::{FirstDrop, ReportCounts};
 use std::fmt;
 
 const FIRST_HEAD: &str = "<section aria-labelledby=\"first\">\n<h2 id=\"first\">First drops</h2>\n\
-    <p>The first hundred events that were dropped, and the word of <code>tep run</code> that tells the story of each.</p>\n\
+    <p>The first event that was dropped for each reason, or wasn't sent at an outlet (39 and 40), the reason that was met most first, \
+    and the word of <code>tep run</code> that tells its story.</p>\n\
     <div class=\"wide\" role=\"region\" aria-label=\"First drops\" tabindex=\"0\"><table>\n\
     <thead><tr><th scope=\"col\" class=\"n\">Event</th><th scope=\"col\">Moment</th><th scope=\"col\" class=\"n\">Moment, ns</th>\
     <th scope=\"col\">Record</th><th scope=\"col\">Segment</th><th scope=\"col\">Reason</th><th scope=\"col\">Its story</th></tr>\
@@ -87,15 +88,17 @@ impl fmt::Display for FirstCells {
     }
 }
 
-/// The rows of drops.
+/// The rows of the first drops of reasons.
 #[derive(Clone, Copy)]
-struct FirstRows;
+struct FirstRows<'a>(&'a ReportCounts);
 
-impl Parts<FirstDrop> for FirstRows {
-    ghost part = { λ rows drop. first_row drop };
+impl<'a> Parts<u16> for FirstRows<'a> {
+    ghost part = { λ rows place. first_row (first_of rows.0.now place) };
 
-    #[tactic(auto, unfolding(crate::specs::FirstDrops::first_row))]
-    fn put<W: fmt::Write>(&self, drop: FirstDrop, f: &mut fmt::Formatter<W>) -> fmt::Result {
+    fn put<W: fmt::Write>(&self, place: u16, f: &mut fmt::Formatter<W>) -> fmt::Result {
+        let Some(drop) = self.0.first_drop(reason_at(place)) else {
+            return Ok(());
+        };
         let cells = FirstCells {
             drop,
             name: reason_name(drop.reason),
@@ -113,7 +116,8 @@ impl<'a> fmt::Display for FirstDrops<'a> {
 
     #[tactic(auto, unfolding(crate::specs::FirstDrops::first_drops_text))]
     fn fmt<W: fmt::Write>(&self, f: &mut fmt::Formatter<W>) -> fmt::Result {
-        let rows = EachOf(FirstRows, self.0.first_drops());
+        let order = reasons_in_order(self.0);
+        let rows = EachOf(FirstRows(self.0), order.as_slice());
         write!(f, "{FIRST_HEAD}{rows}{FIRST_END}")
     }
 }

@@ -4,9 +4,10 @@
 //! the page is a small value that prints as its text, but for the senders of up to 4,096 talks, 196 KiB on the stack. Nothing is
 //! counted here, and no memory is asked for.
 //!
-//! Specs to read, in order: `specs/Texts`, `specs/Escaped`, `specs/Moment`, `specs/Series`, `specs/Path`, `specs/Picture`, then
-//! a file for each section, `specs/Facts`, `specs/OverTime`, `specs/Places`, `specs/Segments`, `specs/Drops`, `specs/Matrix`,
-//! `specs/Told`, `specs/FirstDrops`, and `specs/Page`. `specs/Senders` serves the search for moves.
+//! Specs to read, in order: `specs/Texts`, `specs/Escaped`, `specs/Moment`, `specs/Duration`, `specs/Series`, `specs/Path`,
+//! `specs/Picture`, `specs/Order`, `specs/Reasons`, then a file for each section, `specs/Facts`, `specs/Short`, `specs/OverTime`,
+//! `specs/Places`, `specs/Segments`, `specs/Drops`, `specs/Matrix`, `specs/Told`, `specs/FirstDrops`, and `specs/Page`.
+//! `specs/Senders` serves the search for moves.
 //!
 //! Proved: the whole page, octet for octet, so each number on it is the one that was counted, at its place; and that no text of
 //! others is markup ([`escaped_has_no_markup`], [`escaped_has_no_loose_ampersand`]).
@@ -22,6 +23,7 @@
 
 mod chosen;
 mod drops;
+mod duration;
 mod each;
 mod escaped;
 mod facts;
@@ -31,6 +33,7 @@ mod lines;
 mod matrix;
 mod moment;
 mod moves;
+mod order;
 mod over_time;
 mod page;
 mod pair_rows;
@@ -39,10 +42,12 @@ mod pen;
 mod picture;
 mod places;
 mod ranks;
+mod reason_order;
 mod reasons;
 mod segments;
 mod senders;
 mod series;
+mod short;
 mod shown;
 mod squares;
 mod style;
@@ -51,4 +56,4 @@ mod told;
 mod told_rows;
 
 pub use laws::{escaped_has_no_loose_ampersand, escaped_has_no_markup};
-pub use page::write_page;
+pub use page::{RunFolder, write_page};

@@ -3,6 +3,7 @@ ghost use Rattle.std.specs.Prelude.{◌≡◌, Some};
 ghost use Rattle.report_counts.specs.Places.{width};
 ghost use Rattle.report_page.specs.OverTime.{begin_of, number_cell, over_time, span_row};
 
+use crate::duration::Duration;
 use crate::each::{Each, Parts};
 use crate::picture::{BarsPicture, StackedPicture};
 use crate::series::{Both, Kind, Numbers, Parted, SPANS, Series, sum_of};
@@ -10,7 +11,7 @@ use report_counts::ReportCounts;
 use std::fmt;
 
 const TIME_HEAD: &str = "<section aria-labelledby=\"time\">\n<h2 id=\"time\">Over time</h2>\n\
-    <p>From the first moment to the last, in 64 spans of ";
+    <p>From the first moment to the last, in 64 spans, a column for each, of ";
 
 const CAME_HEAD: &str = "<figure>\n<h3>What came</h3>\n";
 
@@ -95,7 +96,7 @@ impl<'a> fmt::Display for OverTime<'a> {
     #[tactic(auto, unfolding(crate::specs::OverTime::over_time))]
     fn fmt<W: fmt::Write>(&self, f: &mut fmt::Formatter<W>) -> fmt::Result {
         let counts = self.0;
-        let width = width(counts);
+        let width = Duration(width(counts));
         let came = StackedPicture {
             title: "What came",
             both: Both {
@@ -120,7 +121,7 @@ impl<'a> fmt::Display for OverTime<'a> {
         let rows = Each(SpanRows(counts), SPANS);
         write!(
             f,
-            "{TIME_HEAD}{width} ns each.</p>\n{CAME_HEAD}{came}{LEFT_HEAD}{left}{DROPPED_HEAD}{dropped}{SPANS_HEAD}{rows}{SPANS_END}"
+            "{TIME_HEAD}{width}.</p>\n{CAME_HEAD}{came}{LEFT_HEAD}{left}{DROPPED_HEAD}{dropped}{SPANS_HEAD}{rows}{SPANS_END}"
         )
     }
 }

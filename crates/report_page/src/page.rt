@@ -12,6 +12,7 @@ use crate::over_time::OverTime;
 use crate::pen::print_to;
 use crate::places::Places;
 use crate::segments::Segments;
+use crate::short::Short;
 use crate::style::STYLE;
 use crate::told::Told;
 use pcap::stream::{Output, WriteFault};
@@ -26,7 +27,7 @@ const PAGE_STYLE: &str = "</title>\n<style>\n";
 const PAGE_BODY: &str = "</style>\n</head>\n<body>\n<header>\n<h1>What a run gave</h1>\n<p><code>";
 
 const PAGE_CONTENTS: &str = "</code></p>\n</header>\n<nav aria-label=\"Contents\"><ul>\n\
-    <li><a href=\"#time\">Over time</a></li>\n<li><a href=\"#places\">Places</a></li>\n\
+    <li><a href=\"#short\">In short</a></li>\n<li><a href=\"#time\">Over time</a></li>\n<li><a href=\"#places\">Places</a></li>\n\
     <li><a href=\"#segments\">Segments</a></li>\n<li><a href=\"#drops\">Drops</a></li>\n\
     <li><a href=\"#pairs\">Who talks to whom</a></li>\n<li><a href=\"#stations\">Stations</a></li>\n\
     <li><a href=\"#first\">First drops</a></li>\n</ul></nav>\n<main>\n";
@@ -50,50 +51,58 @@ impl<'a> fmt::Display for Front<'a> {
     }
 }
 
+/// What a page is of, besides decision lines.
+#[derive(Clone, Copy)]
+pub struct RunFolder<'a> {
+    /// The folder's name.
+    pub name: &'a str,
+    /// It is of a part of a run.
+    pub is_part: bool,
+    /// The text that `tep run` printed with `--tables` and `--talkers`, or nothing.
+    pub told: &'a [u8],
+}
+
 /// The whole page.
 #[derive(Clone, Copy)]
 struct Page<'a> {
     counts: &'a ReportCounts,
-    folder: &'a [u8],
-    told: &'a [u8],
+    folder: RunFolder<'a>,
 }
 
 impl<'a> fmt::Display for Page<'a> {
-    ghost output = { λ page. Some (page_text page.counts.now page.folder.now page.told.now) };
+    ghost output = { λ page. Some (page_text page.counts.now page.folder.name.now page.folder.is_part page.folder.told.now) };
 
     #[tactic(auto, unfolding(crate::specs::Page::page_text))]
     fn fmt<W: fmt::Write>(&self, f: &mut fmt::Formatter<W>) -> fmt::Result {
-        let front = Front(self.folder);
+        let front = Front(self.folder.name.as_bytes());
         let facts = Facts(self.counts);
+        let short = Short {
+            counts: self.counts,
+            is_part: self.folder.is_part,
+        };
         let time = OverTime(self.counts);
         let places = Places(self.counts);
         let segments = Segments(self.counts);
         let drops = Drops(self.counts);
         let matrix = Matrix(self.counts);
-        let told = Told(self.told);
+        let told = Told(self.folder.told);
         let first = FirstDrops(self.counts);
         write!(
             f,
-            "{front}{facts}{time}{places}{segments}{drops}{matrix}{told}{first}{PAGE_END}"
+            "{front}{facts}{short}{time}{places}{segments}{drops}{matrix}{told}{first}{PAGE_END}"
         )
     }
 }
 
 /// Writes the page of what was counted into an output, piece by piece: HTML 5 with one style and pictures in it, and nothing from
-/// elsewhere. `folder` names what it is of, and `told` is the text that `tep run` printed with `--tables` and `--talkers`, or
-/// nothing. No memory is asked for. A fault comes where a write fails: then a part of the page was written.
+/// elsewhere. No memory is asked for. A fault comes where a write fails: then a part of the page was written.
 pub fn write_page<W: Output>(
     counts: &ReportCounts,
-    folder: &str,
-    told: &[u8],
+    folder: RunFolder<'_>,
     out: &mut W,
 ) -> Result<(), WriteFault>
-    ensures { OnOk result (Appends (W.written out.old) (W.written out.new) (page_text counts.now folder.now told.now)) }
+    ensures { OnOk result (Appends (W.written out.old) (W.written out.new)
+        (page_text counts.now folder.entry.name.now folder.entry.is_part folder.entry.told.now)) }
 {
-    let page = Page {
-        counts,
-        folder: folder.as_bytes(),
-        told,
-    };
-    print_to(page, out)
+    print_to(Page { counts, folder }, out)
 }

@@ -1,13 +1,15 @@
 //! Pictures of series.
 ghost use Rattle.std.specs.Prelude.{◌++◌, Some, codes, decimal};
 ghost use Rattle.report_page.specs.Path.{bar_text, height_of, point_text};
-ghost use Rattle.report_page.specs.Picture.{bars_picture, bars_text, line_text, path_text, picture_head, polyline_text};
-ghost use Rattle.report_page.specs.Picture.{small_bars_cell, spark_cell, spark_end, spark_head, stacked_picture, upper_text};
+ghost use Rattle.report_page.specs.Picture.{axis_text, bars_picture, bars_text, line_text, path_text, picture_head, polyline_text};
+ghost use Rattle.report_page.specs.Picture.{scale_text, small_bars_cell, spark_cell, spark_end, spark_head, stacked_picture, upper_text};
 ghost use Rattle.report_page.specs.Series.{number_at};
 
 use crate::each::{Each, Parts};
+use crate::moment::Moment;
 use crate::path::{Bar, Point, height_of};
 use crate::series::{Both, Numbers, SPANS, Series, greatest};
+use report_counts::ReportCounts;
 use std::fmt;
 
 /// The bars of a series, so high as its numbers are of the greatest.
@@ -141,6 +143,36 @@ impl<'a> fmt::Display for UpperPath<'a> {
     }
 }
 
+/// What stands above a picture: the greatest of its numbers.
+#[derive(Clone, Copy)]
+struct Scale(u64);
+
+impl fmt::Display for Scale {
+    ghost output = { λ scale. Some (scale_text scale.0) };
+
+    fn fmt<W: fmt::Write>(&self, f: &mut fmt::Formatter<W>) -> fmt::Result {
+        let most = self.0;
+        write!(f, "<p class=\"scale\">{most} at most</p>\n")
+    }
+}
+
+/// What a picture ends with, and stands below it: the first and the last moment.
+#[derive(Clone, Copy)]
+struct Axis<'a>(&'a ReportCounts);
+
+impl<'a> fmt::Display for Axis<'a> {
+    ghost output = { λ axis. Some (axis_text axis.0.now.stretch) };
+
+    fn fmt<W: fmt::Write>(&self, f: &mut fmt::Formatter<W>) -> fmt::Result {
+        let first = Moment(self.0.first());
+        let last = Moment(self.0.last());
+        write!(
+            f,
+            "</svg>\n<p class=\"axis\"><span>{first}</span> <span>{last}</span></p>"
+        )
+    }
+}
+
 /// A picture of bars.
 #[derive(Clone, Copy)]
 pub(crate) struct BarsPicture<'a> {
@@ -160,14 +192,17 @@ impl<'a> fmt::Display for BarsPicture<'a> {
             title: self.title,
             shown: "Bars, one for each of the 64 spans.",
         };
+        let most = greatest(&self.series, SPANS);
+        let scale = Scale(most);
         let path = BarsPath {
             colour: self.colour,
             bars: Bars {
                 series: self.series,
-                most: greatest(&self.series, SPANS),
+                most,
             },
         };
-        write!(f, "{head}{path}</svg>")
+        let axis = Axis(self.series.0);
+        write!(f, "{scale}{head}{path}{axis}")
     }
 }
 
@@ -201,7 +236,9 @@ impl<'a> fmt::Display for StackedPicture<'a> {
             both: self.both,
             most,
         });
-        write!(f, "{head}{lower}{upper}</svg>")
+        let scale = Scale(most);
+        let axis = Axis(self.both.counts);
+        write!(f, "{scale}{head}{lower}{upper}{axis}")
     }
 }
 

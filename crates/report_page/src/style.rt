@@ -3,7 +3,7 @@
 /// The style of the page: calm, in colours of light and dark, for screens of any width and for paper.
 pub(crate) const STYLE: &str = "\
     :root { color-scheme: light dark; --paper: #fff; --ink: #1c2024; --soft: #5c656e; --line: #d5dade; }\n\
-    :root { --first: #1f5fa8; --second: #8fbbe8; --third: #b4441f; }\n\
+    :root { --first: #154b8a; --second: #4d93d6; --third: #b4441f; }\n\
     @media (prefers-color-scheme: dark) {\n\
     :root { --paper: #16191c; --ink: #e4e7ea; --soft: #a0a9b2; --line: #3a4249; }\n\
     :root { --first: #5a9be6; --second: #c4dffa; --third: #f08a5d; }\n\
@@ -31,8 +31,13 @@ pub(crate) const STYLE: &str = "\
     .n { text-align: right; }\n\
     .why { min-width: 20rem; white-space: normal; }\n\
     figure { margin: 1rem 0; }\n\
+    ol { max-width: 45rem; padding-left: 1.5rem; }\n\
+    ol li { margin: .5rem 0; }\n\
     figcaption { margin-top: .25rem; color: var(--soft); font-size: .875rem; }\n\
     svg { display: block; width: 100%; }\n\
+    svg, .key::before { -webkit-print-color-adjust: exact; print-color-adjust: exact; }\n\
+    .scale, .axis { max-width: none; margin: .25rem 0; color: var(--soft); font-size: .8125rem; }\n\
+    .axis { display: flex; justify-content: space-between; }\n\
     .bars { height: 8rem; border-bottom: 1px solid var(--soft); }\n\
     .spark { width: 10rem; height: 1.5rem; border-bottom: 1px solid var(--line); }\n\
     polyline { fill: none; stroke: var(--first); stroke-width: 1.5; vector-effect: non-scaling-stroke; }\n\

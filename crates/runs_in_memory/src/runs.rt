@@ -10,8 +10,7 @@ ghost use Rattle.runs_in_memory.specs.declared.files.memory_file.MemoryFile.{Mem
 ghost use Rattle.runs_in_memory.specs.Left.{LeavesRun};
 
 use crate::files::{Memory, MemoryFile};
-use program_faults::Failure;
-use program_files::{FailedOutputs, Names};
+use program_files::{FailedOutputs, Failure, Names};
 use runs_on_files::{Job, Ran, Texts, run_on_files};
 use stream_run::{TakesAll, Watch};
 

@@ -8,8 +8,7 @@ use part_record::{
     CaptureDigest, CaptureDigests, DigestInput, DigestsFault, LentFault, MOST_PORTS, digests_of,
     digests_text,
 };
-use program_faults::{DigestsFailure, Failure};
-use program_files::{CAPTURE_READS, open_named, print_text, read_file};
+use program_files::{CAPTURE_READS, DigestsFailure, Failure, open_named, print_text, read_file};
 use std::io::Input;
 use std::rt::Files;
 use text_calls::tap_of;

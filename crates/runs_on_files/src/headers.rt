@@ -2,8 +2,7 @@
 use capture_run::RunFault;
 use pcap::stream::{Source, SourceFault};
 use pcap::text::CaptureFault;
-use program_faults::Failure;
-use program_files::{ClassicInput, Names, is_read_once, open_front};
+use program_files::{ClassicInput, Failure, Names, is_read_once, open_front};
 use std::io::{Input, Read};
 use std::rt::Files;
 use text_calls::tap_of;

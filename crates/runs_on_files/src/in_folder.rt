@@ -6,10 +6,9 @@ ghost use Rattle.std.specs.Prelude.{◌≡◌, IfOk, length};
 ghost use Rattle.program_files.specs.Held.{AreHeld, written};
 
 use crate::headers::see_headers;
-use program_faults::Failure;
 use program_files::{
-    Destination, Mark, Names, OutputFiles, drop_part, drop_texts, empty_objects, open_objects,
-    open_outputs, see_room, spare_inputs,
+    Destination, Failure, Mark, Names, OutputFiles, drop_part, drop_texts, empty_objects,
+    open_objects, open_outputs, see_room, spare_inputs,
 };
 use std::io::Input;
 use std::rt::Files;

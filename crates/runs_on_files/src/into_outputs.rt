@@ -10,8 +10,7 @@ ghost use Rattle.stream_run.specs.Begun.{IsUnread};
 ghost use Rattle.stream_run.specs.Sieved.{taken_with};
 
 use crate::run_captures::{RunCaptures, failure_of};
-use program_faults::Failure;
-use program_files::{FailedOutputs, HandedOn, Names, OutputFiles};
+use program_files::{FailedOutputs, Failure, HandedOn, Names, OutputFiles};
 use std::alloc::Global;
 use std::io::{Read, Write};
 use stream_run::{Job, Sieve, Watch, run};

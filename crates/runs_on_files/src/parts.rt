@@ -12,9 +12,9 @@ use part_record::{
     CaptureDigests, LentFault, MOST_PORTS, OutputFacts, PartRecord, ToldOutputs, ToldTexts,
     put_texts, see_octets, text_of,
 };
-use program_faults::{DigestsFailure, Failure, OutputFile};
 use program_files::{
-    Destination, Mark, Names, OutputSums, PartLines, PartRecordFile, count_lines, leave_text,
+    Destination, DigestsFailure, Failure, Mark, Names, OutputFile, OutputSums, PartLines,
+    PartRecordFile, count_lines, leave_text,
 };
 use segment_set::SegmentSet;
 use sha2::{Digest, Sha256};

@@ -1,8 +1,7 @@
 //! The captures of a run.
 use part_record::CountInput;
 use pcapng_input::PcapngFault;
-use program_faults::Failure;
-use program_files::{Capture, ClassicInput, Names};
+use program_files::{Capture, ClassicInput, Failure, Names};
 use std::alloc::{AllocError, Global};
 use std::io::Read;
 use stream_run::{Captures, StreamFault};

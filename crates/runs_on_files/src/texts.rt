@@ -5,8 +5,7 @@ ghost use Rattle.overlay.specs.Rules.{EachBehind};
 
 use capture_run::{RunFault, of_changes};
 use overlay_config::{TimedChange, changes_of};
-use program_faults::Failure;
-use program_files::{Names, read_file, read_if_given};
+use program_files::{Failure, Names, read_file, read_if_given};
 use std::alloc::{AllocError, Global};
 use std::rt::Files;
 

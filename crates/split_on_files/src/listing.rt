@@ -2,7 +2,7 @@
 use crate::capture_split::Lanes;
 use crate::pass::number_at;
 use crate::split_file::SplitFile;
-use program_faults::OneLine;
+use program_files::OneLine;
 use std::alloc::{AllocError, Global};
 use std::fmt::Write;
 use std::io;

@@ -2,8 +2,10 @@
 use crate::naming::file_name;
 use pcap::stream::{BlockOutput, Output, StdOutput};
 use pcap::text::global_header;
-use program_faults::{Failure, OutputFile, SystemFault, Unwritten, UnwrittenFile};
-use program_files::{FILES_OF_A_RUN, FoundFiles, OutputDevice, file_of_run, path_of};
+use program_files::{
+    FILES_OF_A_RUN, Failure, FoundFiles, OutputDevice, OutputFile, SystemFault, Unwritten,
+    UnwrittenFile, file_of_run, path_of,
+};
 use std::alloc::{AllocError, Global};
 use std::fs::OpenOptions;
 use std::io::Write;

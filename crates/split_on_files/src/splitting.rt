@@ -5,8 +5,7 @@ use crate::pass::{Ending, Place, SplitFiles, number_at, pass_over};
 use crate::split_file::{SplitFile, taken_in};
 use command_line::capture_name;
 use pcapng_input::Gathered;
-use program_faults::{Failure, SplitFailure};
-use program_files::{file_of, open_blocks, print_text};
+use program_files::{Failure, SplitFailure, file_of, open_blocks, print_text};
 use std::io::{Input, Write};
 use std::rt::Files;
 

@@ -4,8 +4,8 @@ use Rattle.std.specs.Prelude.{IsSomeAnd, []}
 use Rattle.clap.specs.Words.{IsAmong, Text, fault_of}
 use Rattle.clap.specs.declared.error.kind.ErrorKind.TheVariants.{DisplayHelp, DisplayVersion}
 use Rattle.command_line.specs.App.{tep_app}
-use Rattle.command_line.specs.Meaning.{AreTaken as AreTakenByClap, ComparesSomething, LendsToParts, Meaning, ReadsInputOnce}
-use Rattle.command_line.specs.Meaning.{compares_nothing, input_uses}
+use Rattle.command_line.specs.Meaning.{AreTaken as AreTakenByClap, ComparesSomething, KeepsOutputApart, LendsToParts, Meaning}
+use Rattle.command_line.specs.Meaning.{ReadsInputOnce, compares_nothing, input_uses, mixes_output}
 use Rattle.command_line.specs.Meaning.{lends_to_a_whole, run, telling_meant, words_meant}
 use Rattle.compare_on_files.specs.Tables.{no_table_in}
 use Rattle.run_reports.specs.Names.{is_event_name}
@@ -16,7 +16,7 @@ first_no_event names = find (λ name. not (is_event_name name)) names
 
 -- that of the names whose stories are asked for
 abbrev pub no_event_in : Meaning → Option Text
-no_event_in (run settings changes underlay out ports tables tables_at why summary talkers segments digests both within json quiet) =
+no_event_in (run settings changes underlay out ports tables tables_at why summary talkers segments digests both within json quiet pcapng) =
     first_no_event why
 no_event_in _ = None
 
@@ -29,22 +29,24 @@ abbrev pub NamesTables : Meaning → Type 0
 NamesTables meaning = no_table_in meaning ≡ None
 
 -- words that `clap` doesn't take, also not as a run of which something is told, among them those that ask for help, that lack a
--- value, that ask for standard input more than once, that lend digests to a run that is no part, that compare what a run wrote
--- with no capture, that name an event as none can be named, or a table that there is none of
+-- value, that ask for standard input more than once, that lend digests to a run that is no part, that print something beside a view on
+-- standard output, that compare what a run wrote with no capture, that name an event as none can be named, or a table that there is
+-- none of
 abbrev pub AreRefused : List Text → Type 0
 AreRefused words =
     ((((fault_of tep_app words ≢ []) × (telling_meant words ≡ None)) ⊎ (words_meant words ≡ None))
     ⊎ IsSomeAnd (words_meant words) (λ meaning. 2 ≤ input_uses meaning))
     ⊎ (IsSomeAnd (words_meant words) (λ meaning. lends_to_a_whole meaning ≡ true)
+    ⊎ (IsSomeAnd (words_meant words) (λ meaning. mixes_output meaning ≡ true)
     ⊎ (IsSomeAnd (words_meant words) (λ meaning. compares_nothing meaning ≡ true)
     ⊎ (IsSomeAnd (words_meant words) (λ meaning. is_some (no_event_in meaning) ≡ true)
-    ⊎ IsSomeAnd (words_meant words) (λ meaning. is_some (no_table_in meaning) ≡ true))))
+    ⊎ IsSomeAnd (words_meant words) (λ meaning. is_some (no_table_in meaning) ≡ true)))))
 
--- words that are taken, ask for standard input once at most, lend digests to parts alone, compare something where they compare,
--- and name events as they can be named and tables that there are
+-- words that are taken, ask for standard input once at most, lend digests to parts alone, print nothing beside a view on standard
+-- output, compare something where they compare, and name events as they can be named and tables that there are
 abbrev pub AreTaken : List Text → Type 0
 AreTaken words = AreTakenByClap words × IsSomeAnd (words_meant words) (λ meaning. ReadsInputOnce meaning × LendsToParts meaning
-    × ComparesSomething meaning × NamesEvents meaning × NamesTables meaning)
+    × KeepsOutputApart meaning × ComparesSomething meaning × NamesEvents meaning × NamesTables meaning)
 
 -- words that ask for help or for the version, which `clap` tells as a fault
 abbrev pub AskForText : List Text → Type 0

@@ -1,7 +1,6 @@
-//! The program `tep` from its words to its texts and exit status: its words, what is told of its runs, and its exit statuses. What
-//! else it does each command has in a crate of its own, as `merge_on_files`, `compare_on_files` and `check_on_files`; what is told
-//! below a fault has `fault_notes`. What it works out stands in the library `text_calls` and in `stream_run`, its files and its runs
-//! on them in `program_files` and `runs_on_files`.
+//! The program `tep` from its words to its exit status. What it does each command has in a crate of its own, as `told_runs`,
+//! `merge_on_files`, `compare_on_files` and `check_on_files`; what is told below a fault has `fault_notes`. What it works out stands
+//! in the library `text_calls` and in `stream_run`, its files and its runs on them in `program_files` and `runs_on_files`.
 //!
 //! Use first: [`start`] gets the words of the process; [`run`] is handed them.
 //!
@@ -17,12 +16,6 @@
 //! isn't text is refused as `words`, status 2; so is one that `clap` refuses, also where standard error can't be written.
 #![tactic(auto)]
 
-mod directions;
-mod objects_file;
-mod outbound;
 mod program;
-mod progress;
-mod told_runs;
-mod told_texts;
 
 pub use program::{run, start};

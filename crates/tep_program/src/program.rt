@@ -2,11 +2,9 @@
 ghost use Rattle.std.specs.Prelude.{◌≡◌, ◌≤◌, option_map};
 ghost use Rattle.clap.specs.Walk.{texts};
 ghost use Rattle.command_line.specs.Meaning.{HasDepth, meaning_of};
-ghost use Rattle.program_faults.specs.Status.{failure_status_of};
+ghost use Rattle.program_files.specs.Status.{failure_status_of};
 ghost use Rattle.tep_program.specs.Status.{IsDoneStatus, IsStatusOf, first_no_event, no_event_in};
 
-use crate::directions::within_of;
-use crate::told_runs::{Asked, run_and_tell};
 use capture_run::{RunFault, of_settings};
 use check_on_files::check;
 use clap::error::ErrorKind as Refusal;
@@ -22,9 +20,9 @@ use json_lines::kinds::Kind;
 use merge_on_files::{TextsAsked, merge};
 use overlay_config::migrate;
 use page_on_files::make_page;
-use program_faults::{Failure, OutputFile, is_lost};
 use program_files::{
-    ClosedStreams, FailedOutputs, Names, Shown, print_shown, print_text, read_file, read_underlay,
+    ClosedStreams, FailedOutputs, Failure, Names, OutputFile, Shown, is_lost, print_shown,
+    print_text, read_file, read_underlay,
 };
 use run_progress::Screen;
 use run_reports::is_event_name;
@@ -36,6 +34,7 @@ use std::io::{ErrorKind, Input};
 use std::process::ExitCode;
 use std::rt::{Env, Files};
 use std::time::Clock;
+use told_runs::{Asked, run_and_tell, within_of};
 
 /// The exit status where the words are refused.
 const WORDS_REFUSED: u8 = 2;
@@ -90,6 +89,7 @@ pub fn run<'a, R: Files + Input + AllocGlobal + Print + Eprint + Clock + Screen>
         Err(LineFault::NoCapture) => words_refused(rt, &LineFault::NoCapture),
         Err(LineFault::InputTwice) => words_refused(rt, &LineFault::InputTwice),
         Err(LineFault::NoSegments) => words_refused(rt, &LineFault::NoSegments),
+        Err(LineFault::OutputTwice) => words_refused(rt, &LineFault::OutputTwice),
         Err(LineFault::Refused(error)) => {
             let is_lost = is_lost(error.print(rt));
             match error.kind() {
@@ -220,6 +220,7 @@ fn perform<'a, R: Files + Input + AllocGlobal + Print + Eprint + Clock + Screen>
             within,
             json,
             quiet,
+            pcapng,
         } => {
             let names = Names {
                 settings: *settings,
@@ -238,6 +239,7 @@ fn perform<'a, R: Files + Input + AllocGlobal + Print + Eprint + Clock + Screen>
                 within: within_of(*both, *within)?,
                 json: *json,
                 quiet: *quiet,
+                pcapng: *pcapng,
             };
             run_and_tell(rt, names, *out, asked, failed)
         }

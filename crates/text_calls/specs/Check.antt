@@ -26,6 +26,12 @@ Reads (Ok read) found = found ≡ Ok (read.0, read.1.items)
 Reads (Err faults.OutOfMemory) found = Unit {0}
 Reads (Err fault) found = found ≡ Err fault
 
+-- a text is the one that was found, or the fault is, unless memory was refused
+abbrev pub GivesText : Result (Vec ℕ Global) RunFault → Result (List ℕ) RunFault → Type 0
+GivesText (Ok text) found = found ≡ Ok text.items
+GivesText (Err faults.OutOfMemory) found = Unit {0}
+GivesText (Err fault) found = found ≡ Err fault
+
 -- by what the texts mean: the first fault, the settings' before the changes', or else the line
 abbrev pub checked : Meaning Settings → Meaning (List TimedChange) → Result (List ℕ) RunFault
 checked (Err fault) changes = Err (of_settings fault)

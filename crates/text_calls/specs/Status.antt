@@ -2,7 +2,7 @@
 use Rattle.std.specs.Prelude.{ℕ}
 use Rattle.stream_run.specs.declared.fault.StreamFault.{StreamFault}
 use Rattle.stream_run.specs.declared.fault.StreamFault.TheVariants as streams
-use Rattle.program_faults.specs.Status.{status_of}
+use Rattle.program_files.specs.Status.{status_of}
 
 -- that of the run's own fault, 3 for a read or a write that failed
 abbrev pub stream_status_of : StreamFault → ℕ

@@ -2,8 +2,7 @@
 ghost use Rattle.std.specs.Prelude.{◌≡◌, Ok, IfOk};
 ghost use Rattle.overlay_config.specs.Change.{changes_in};
 ghost use Rattle.overlay_config.specs.Settings.{settings_in};
-ghost use Rattle.text_calls.specs.Check.{Reads, both, checked, counts_line};
-ghost use Rattle.explanation.specs.Explanation.{Gives as GivesText};
+ghost use Rattle.text_calls.specs.Check.{GivesText, Reads, both, checked, counts_line};
 
 use capture_run::{RunFault, of_changes, of_settings};
 use overlay_config::{Settings, TimedChange, changes_of, settings_of};

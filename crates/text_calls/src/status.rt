@@ -1,9 +1,9 @@
 //! What the fault of a run over streams is to the program: an exit status, and why it gives up.
 ghost use Rattle.std.specs.Prelude.{◌≡◌};
-ghost use Rattle.program_faults.specs.Status.{failure_status_of};
+ghost use Rattle.program_files.specs.Status.{failure_status_of};
 ghost use Rattle.text_calls.specs.Status.{stream_status_of};
 
-use program_faults::{Failure, OutputFile, exit_code};
+use program_files::{Failure, OutputFile, exit_code};
 use stream_run::{StreamFault, Target};
 
 /// The exit status of a fault of a run over streams: that of the run's own fault, 3 for a read or a write that failed.

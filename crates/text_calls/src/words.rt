@@ -4,9 +4,9 @@ ghost use Rattle.timeline.specs.declared.source.Tap.TheVariants.{Port};
 ghost use Rattle.segment_set.specs.Lists.{meaning};
 ghost use Rattle.segment_set.specs.Segments.{All, Segments};
 ghost use Rattle.segment_set.specs.declared.fault.ListFault.{ListFault as AListFault};
-ghost use Rattle.program_faults.specs.declared.failure.Failure.TheVariants as failures;
+ghost use Rattle.program_files.specs.declared.faults.failure.Failure.TheVariants as failures;
 
-use program_faults::Failure;
+use program_files::Failure;
 use segment_set::SegmentSet;
 use timeline::Tap;
 

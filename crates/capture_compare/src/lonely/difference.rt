@@ -19,7 +19,7 @@ use wire::vxlan::Vni;
 /// The one thing in which a record that was received differs from one that was sent: what was received, and what was sent. It
 /// prints as `vni 5001 for 5000`, `kind geneve for vxlan`, `remote 192.0.2.1 for 192.0.2.2`, `tag 20 for none` and
 /// `length 1514 for 1500`.
-#[derive(Clone, Copy, Debug)]
+#[derive(Clone, Copy, Debug, PartialEq, Eq)]
 pub enum Difference {
     /// The VNIs.
     Vni(Vni, Vni),

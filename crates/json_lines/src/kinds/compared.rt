@@ -3,7 +3,7 @@ ghost use Rattle.json_lines.specs.ReadBack.{AreWhole};
 
 use crate::{Form, form};
 
-static COMPARED: [Form; 15] = [
+static COMPARED: [Form; 16] = [
     form!(["sent", "alone", Number] => { "count": [2], "line": "sent alone" }),
     form!(["received", "alone", Number] => { "count": [2], "line": "received alone" }),
     // What is sent, received or both, and delays.
@@ -23,6 +23,8 @@ static COMPARED: [Form; 15] = [
         "both": [7], "line": "no segment", "received": [5], "received_alone": [13], "sent": [3],
         "sent_alone": [10]
     }),
+    // Of two captures that stand for themselves `doubled` is told as what is sent is.
+    form!([TextBefore(b':'), "doubled", Number] => { "count": [2], "line": [1], "place": [0] }),
     form!(["behind", "another", Number] => { "count": [2], "line": "behind another" }),
     form!([TextBefore(b':'), "behind", "another", Number] => {
         "count": [3], "line": "behind another", "place": [0]

@@ -3,7 +3,7 @@ ghost use Rattle.json_lines.specs.ReadBack.{AreWhole};
 
 use crate::{Form, form};
 
-static COUNTS: [Form; 12] = [
+static COUNTS: [Form; 13] = [
     form!(["segment", Number, "sent", Number] => { "count": [3], "line": [2], "segment": [1] }),
     form!(["segment", Number, "dropped", Number, Text, Number] => {
         "count": [5], "line": [2], "name": [4], "reason": [3], "segment": [1]
@@ -33,6 +33,10 @@ static COUNTS: [Form; 12] = [
     form!(["talk", Number, Text, Text, ">", Text, Text, Number, Number, "first", Text, "last", Text] => {
         "count": [7], "destination": [5], "first": [10], "from": [3], "last": [12], "line": [0],
         "octets": [8], "segment": [1], "source": [2], "to": [6]
+    }),
+    form!(["talk", Number, Text, Text, ">", Text, Text, Number, Number, "first", Text, "last", Text, "short", Number] => {
+        "count": [7], "destination": [5], "first": [10], "from": [3], "last": [12], "line": [0],
+        "octets": [8], "segment": [1], "short": [14], "source": [2], "to": [6]
     }),
 ];
 

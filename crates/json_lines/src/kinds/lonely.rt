@@ -1,4 +1,4 @@
-//! Lines of records that are of one capture alone.
+//! Lines of records that are of one capture alone, and of what of near ones differs.
 ghost use Rattle.json_lines.specs.ReadBack.{AreWhole};
 
 use crate::{Form, form};
@@ -81,4 +81,33 @@ pub(crate) fn lonely_received_forms() -> &'static [Form]
     ensures { AreWhole result.now }
 {
     &LONELY_RECEIVED
+}
+
+static DIFFERENCES: [Form; 4] = [
+    form!([TextBefore(b':'), "vlan", NumberBefore(b':'), Text, Text, "for", TextBefore(b':'), NumberBefore(b','),
+        "first", "record", Number, "for", Number] => {
+        "count": [7], "difference": [3], "line": "difference", "place": [0], "received": [4],
+        "received_record": [10], "sent": [6], "sent_record": [12], "vid": [2], "where": [1]
+    }),
+    form!([TextBefore(b':'), "untagged:", Text, Text, "for", TextBefore(b':'), NumberBefore(b','), "first",
+        "record", Number, "for", Number] => {
+        "count": [6], "difference": [2], "line": "difference", "place": [0], "received": [3],
+        "received_record": [9], "sent": [5], "sent_record": [11], "where": "untagged"
+    }),
+    form!([TextBefore(b':'), Text, NumberBefore(b':'), Text, Text, "for", TextBefore(b':'), NumberBefore(b','),
+        "first", "record", Number, "for", Number] => {
+        "count": [7], "difference": [3], "line": "difference", "place": [0], "received": [4],
+        "received_record": [10], "sent": [6], "sent_record": [12], "vni": [2], "where": [1]
+    }),
+    form!([TextBefore(b':'), "other", "differences:", Number] => {
+        "count": [3], "line": "other differences", "place": [0]
+    }),
+];
+
+/// What of near records differs.
+#[tactic(auto, using(crate::proofs::Whole::whole_forms))]
+pub(crate) fn difference_forms() -> &'static [Form]
+    ensures { AreWhole result.now }
+{
+    &DIFFERENCES
 }

@@ -7,7 +7,7 @@ use crate::kinds::compared::{compared_forms, delay_forms};
 use crate::kinds::counts::count_forms;
 use crate::kinds::events::{event_forms, fact_forms};
 use crate::kinds::layers::layer_forms;
-use crate::kinds::lonely::{lonely_received_forms, lonely_sent_forms};
+use crate::kinds::lonely::{difference_forms, lonely_received_forms, lonely_sent_forms};
 use crate::kinds::looks::look_forms;
 use crate::kinds::tables::entry_forms;
 use crate::{Form, objects_of as objects_by};
@@ -33,6 +33,7 @@ pub fn objects_of(alloc: Global, kind: Kind, text: &[u8]) -> Result<Vec<u8>, All
                 delay_forms(),
                 lonely_sent_forms(),
                 lonely_received_forms(),
+                difference_forms(),
             ],
             text,
         ),

@@ -32,11 +32,6 @@ pub struct LengthRow {
 }
 
 impl LengthRow {
-    /// Whether it counts no record.
-    pub fn is_none(&self) -> bool {
-        self.both == 0 && self.sent_alone == 0 && self.received_alone == 0
-    }
-
     /// The row with one more of a kind.
     fn with(self, kind: Kind) -> LengthRow
         ensures { result ≡ row_with kind self }

@@ -1,7 +1,7 @@
 use Rattle.std.proofs.Common.{◌≡◌, ◌∙◌, ◌≤◌, true, sym, subst, arith}
 use Rattle.std.specs.Prelude.{IsSomeAnd}
 use Rattle.clap.specs.Walk.{texts}
-use Rattle.command_line.specs.Meaning.{compares_nothing, input_uses, lends_to_a_whole, meaning_of}
+use Rattle.command_line.specs.Meaning.{compares_nothing, input_uses, lends_to_a_whole, meaning_of, mixes_output}
 use Rattle.command_line.proofs.Simple.{explained_line}
 use Rattle.command_line.proofs.line.line_of.Goals as goal
 
@@ -14,6 +14,11 @@ pub returns-then-lends_to_a_whole-clause-fault : goal.returns-then-lends_to_a_wh
 returns-then-lends_to_a_whole-clause-fault c =
     let lends : lends_to_a_whole (meaning_of c.in-Ok.line) ≡ true = sym c.lends_to_a_whole.ensures ∙ c.if-lends_to_a_whole.true in
     (c.in-Ok.ensures.taken, subst (λ m. IsSomeAnd m (λ meaning. lends_to_a_whole meaning ≡ true)) (sym c.in-Ok.ensures.ok) lends)
+
+pub returns-then-mixes_output-clause-fault : goal.returns-then-mixes_output-clause-fault
+returns-then-mixes_output-clause-fault c =
+    let mixes : mixes_output (meaning_of c.in-Ok.line) ≡ true = sym c.mixes_output.ensures ∙ c.if-mixes_output.true in
+    (c.in-Ok.ensures.taken, subst (λ m. IsSomeAnd m (λ meaning. mixes_output meaning ≡ true)) (sym c.in-Ok.ensures.ok) mixes)
 
 pub returns-then-compares_nothing-clause-fault : goal.returns-then-compares_nothing-clause-fault
 returns-then-compares_nothing-clause-fault c =

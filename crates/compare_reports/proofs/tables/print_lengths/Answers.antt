@@ -1,4 +1,4 @@
-use Rattle.std.proofs.Common.{◌+◌, ◌∙◌, sym, subst, List, Option, ℕ, arith}
+use Rattle.std.proofs.Common.{sym, subst, List, Option, ℕ}
 use Rattle.std.specs.List.{FoldsTo}
 use Rattle.compare_reports.specs.Prints.{Prints}
 use Rattle.compare_reports.proofs.Printing.{lengths-first, prints-one}

@@ -66,9 +66,13 @@ pair_octets 1 0 | 60
 pair_octets 256 0 | 70
 pair_octets 1 2 | 64
 pair_frames 256 3 | 0
-drops | 2
-drop_event 0 | 3
-drop_event 1 | 6
+reason 35 | 1
+reason 40 | 1
+reason 41 | 0
+drop_event 35 | 3
+drop_event 20 | 6
+drop_event 40 | 2
+cut 256 | 2
 outlets | 4
 "
 }
@@ -97,8 +101,7 @@ fn whole_count(counts: &ReportCounts, word: &str, a: usize) -> Option<u64> {
         "frames" => Some(counts.outlet(a).frames),
         "octets" => Some(counts.outlet(a).octets),
         "faults" => Some(counts.outlet(a).faults),
-        "drops" => Some(counts.first_drops().len() as u64),
-        "drop_event" => counts.first_drops().get(a).map(|drop| drop.event),
+        "cut" => counts.cut(a),
         _ => None,
     }
 }
@@ -125,6 +128,8 @@ fn reason_count(counts: &ReportCounts, word: &str, a: usize, b: usize) -> Option
     let second = u8::try_from(b).unwrap_or(0);
     match word {
         "refused" => Some(counts.refused(first)),
+        "reason" => Some(counts.reason(first)),
+        "drop_event" => counts.first_drop(first).map(|drop| drop.event),
         "dropped" => Some(counts.dropped(a, second)),
         "unsent_by" => Some(counts.unsent_by(a, second)),
         "reason_at" => Some(counts.reason_at(first, b)),
@@ -223,12 +228,11 @@ fn count_drops(alloc: Global, counts: &mut ReportCounts, from: u16, to: u16) -> 
 }
 
 #[test]
-fn keeps_the_first_hundred_drops(rt: HostRuntime) -> Result<(), Fail> {
+fn keeps_the_first_drop_of_a_reason(rt: HostRuntime) -> Result<(), Fail> {
     let mut counts = ReportCounts::new(rt.alloc(), 5, 5)?;
     count_drops(rt.alloc(), &mut counts, 1, 103)?;
     assert_eq!(rt; counts.dropped_all(), 102);
-    assert_eq!(rt; answer(&counts, "drops", 0, 0), Some(100));
-    assert_eq!(rt; answer(&counts, "drop_event", 0, 0), Some(1));
-    assert_eq!(rt; answer(&counts, "drop_event", 99, 0), Some(100));
+    assert_eq!(rt; answer(&counts, "drop_event", 35, 0), Some(1));
+    assert_eq!(rt; answer(&counts, "drop_event", 12, 0), None);
     Ok(())
 }

@@ -1,7 +1,7 @@
 //! Pages of a few lines each.
 use pcap::stream::StdOutput;
 use report_counts::{ReportCounts, read_line};
-use report_page::write_page;
+use report_page::{RunFolder, write_page};
 use std::alloc::Global;
 use std::process::Abort;
 use std::test::Fail;
@@ -35,7 +35,12 @@ fn page_of(alloc: Global, lines: &str, folder: &str, told: &str) -> Result<Strin
         counts.count(&read);
     }
     let mut output = StdOutput::new(Vec::new(alloc));
-    if write_page(&counts, folder, told.as_bytes(), &mut output).is_err() {
+    let folder = RunFolder {
+        name: folder,
+        is_part: true,
+        told: told.as_bytes(),
+    };
+    if write_page(&counts, folder, &mut output).is_err() {
         return Err(Fail::from("a page"));
     }
     match String::from_utf8(output.into_inner()) {
@@ -51,11 +56,16 @@ fn wanted<'a>() -> &'a str {
 <div><dt>Events</dt><dd>7</dd></div>
 <div><dt>First moment</dt><dd>2026-11-29 05:01:02 UTC<small>1795928462000000000 ns</small></dd></div>
 <div><dt>Last moment</dt><dd>2026-11-29 05:02:05 UTC<small>1795928525999999999 ns</small></dd></div>
-<div><dt>Sent</dt><dd>4</dd></div>
+<div><dt>Frames and packets that left</dt><dd>4</dd></div>
 <div><dt>Not sent at an outlet</dt><dd>1</dd></div>
-<div><dt>Dropped</dt><dd>2</dd></div>
+<div><dt>Dropped</dt><dd>2<small>40.0 % of 5 that came</small></dd></div>
 <div><dt>Changes done</dt><dd>1</dd></div>
 <div><dt>Changes refused</dt><dd>1</dd></div>
+<p>This folder is of a part of a run: its <code>shard.txt</code> tells of which segments.
+<p>The capture of <code>p2</code> is cut: it ends within a record, behind 2 whole ones.</p>
+<li><strong>12 NotIp: 1</strong><br>Behind at most two tags
+<li><strong>35 SamePlace: 1</strong><br>The destination stands
+<li><strong>39 TooBig: 1</strong><br>For one outlet
 <tr><th scope=\"row\">1</th><td class=\"n\">1795928463000000000</td><td class=\"n\">2</td><td class=\"n\">0</td>\
 <td class=\"n\">2</td><td class=\"n\">0</td><td class=\"n\">0</td></tr>
 <tr><th scope=\"row\">p1</th><td class=\"n\">2</td><td><svg
@@ -66,10 +76,12 @@ fn wanted<'a>() -> &'a str {
 <tr><th scope=\"row\">10</th><td class=\"n\">3</td><td class=\"n\">3</td><td class=\"n\">1</td><td><svg
 <tr><th scope=\"row\">none</th><td class=\"n\">1</td><td class=\"n\">0</td><td class=\"n\">1</td><td><svg
 <tr><th scope=\"row\">20</th><td class=\"n\">39</td><td>TooBig</td><td class=\"n\">1</td><td class=\"why\">
+<tr><th scope=\"row\">39 TooBig</th><td class=\"n\">1</td><td><svg
 <tr><th scope=\"row\">6 TableFull</th><td class=\"n\">1</td><td><span class=\"limit\">a limit</span></td></tr>
 <title>p1 to p2: 2</title>
 <tr><th scope=\"row\">p1</th><td>192.0.2.2</td><td class=\"n\">1</td><td class=\"n\">110</td></tr>
 <td>u:1</td><td>none</td><td>12 NotIp</td><td><code>tep run .. --why u:1</code></td></tr>
+<td>p2:1</td><td>20</td><td>39 TooBig</td><td><code>tep run .. --why p2:1</code></td></tr>
 <td>p2:2</td><td>10</td><td>35 SamePlace</td><td><code>tep run .. --why p2:2</code></td></tr>
 </html>
 "

@@ -1,5 +1,5 @@
 //! How much a window keeps.
-use echo_window::{Forgotten, PlaceSet, Record, Window};
+use echo_window::{Forgotten, FrameText, PlaceSet, Record, Window};
 use std::alloc::Global;
 use std::test::Fail;
 
@@ -18,8 +18,7 @@ fn show(window: &mut Window, place: u8, number: u32, rest: &[u8]) -> Option<u8> 
     let record = Record {
         place,
         moment: 7,
-        addresses: &octets,
-        rest,
+        frame: &FrameText::new(&octets, rest),
         awaited: &nine_places(),
     };
     let met = window.meet(&record);
@@ -86,8 +85,7 @@ fn forgotten_behind(alloc: Global, within: u64, count: u32) -> Result<Forgotten,
         let record = Record {
             place: 1,
             moment: u64::from(number),
-            addresses: &octets,
-            rest: &[],
+            frame: &FrameText::new(&octets, &[]),
             awaited: &nine_places(),
         };
         window.enter(&record);
@@ -107,6 +105,40 @@ fn what_goes_for_want_of_room_is_counted(rt: HostRuntime) -> Result<(), Fail> {
     // An echo of the first could still come in the nanosecond of the last, or no more.
     assert!(rt; forgotten_behind(rt.alloc(), 4096, 4097)? == went(1, Some(4096)));
     assert!(rt; forgotten_behind(rt.alloc(), 4095, 4097)? == went(0, None));
+    Ok(())
+}
+
+/// What a window forgot behind so many frames, each awaited at place 2 alone, of which the first was met there.
+fn forgotten_behind_met(alloc: Global, count: u32) -> Result<Forgotten, Fail> {
+    let mut window = Window::new(alloc, 10)?;
+    let mut second = PlaceSet::new();
+    second.add(2);
+    for number in 0..count {
+        let octets = number.to_be_bytes();
+        let frame = FrameText::new(&octets, &[]);
+        let came = Record {
+            place: 1,
+            moment: 7,
+            frame: &frame,
+            awaited: &second,
+        };
+        window.enter(&came);
+        if number == 0 {
+            let _ = window.meet(&Record {
+                place: 2,
+                moment: 7,
+                frame: &frame,
+                awaited: &second,
+            });
+        }
+    }
+    Ok(window.forgotten())
+}
+
+#[test]
+fn a_frame_that_was_met_everywhere_is_not_counted(rt: HostRuntime) -> Result<(), Fail> {
+    assert!(rt; forgotten_behind_met(rt.alloc(), 4097)? == went(0, None));
+    assert!(rt; forgotten_behind_met(rt.alloc(), 4098)? == went(1, Some(0)));
     Ok(())
 }
 

@@ -2,7 +2,7 @@
 use capture_run::RunFault;
 use explanation::sample::sample;
 use pcap::text::{CaptureFault, RecordFault};
-use program_faults::{TextFault, exit_code, read_text};
+use program_files::{TextFault, exit_code, read_text};
 use std::alloc::Global;
 use std::test::Fail;
 use stream_run::{StreamFault, Target};

@@ -1,8 +1,8 @@
-use Rattle.std.proofs.Common.{◌≡◌, ◌∙◌, List, ap, subst, sym, ℕ}
+use Rattle.std.proofs.Common.{◌≡◌, ◌∙◌, ap, subst, sym}
 use Rattle.endpoint_core.specs.Kept.{state_of}
 use Rattle.timeline.specs.declared.source.Tap.{Tap}
 use Rattle.timeline.specs.declared.source.Tap.TheVariants.{Port, Underlay as AtUnderlay}
-use Rattle.both_ways.specs.Sieve.{Seen, counted, is_input, record_behind, seen_of}
+use Rattle.both_ways.specs.Sieve.{counted, is_input, record_behind, seen_of}
 use Rattle.both_ways.specs.Told.{place_of}
 use Rattle.both_ways.specs.declared.sieve.BothWays.{BothWays}
 use Rattle.both_ways.proofs.Bringing.{none_counted, one_counted}

@@ -1,4 +1,4 @@
-use Rattle.std.proofs.Common.{◌≡◌, ◌∙◌, [], ap}
+use Rattle.std.proofs.Common.{◌∙◌, [], ap}
 use Rattle.endpoint_core.specs.Kept.{state_of}
 use Rattle.timeline.specs.declared.event.Happening.{Happening}
 use Rattle.both_ways.specs.Sieve.{happens_in, seen_of}

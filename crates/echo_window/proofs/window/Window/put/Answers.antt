@@ -1,4 +1,4 @@
-use Rattle.std.proofs.Common.{◌≡◌, ℕ, List, ◌+◌, ◌++◌, ◌∷◌, [], min, sym, ap, ◌∙◌, subst, arith, length-append, deque_capacity}
+use Rattle.std.proofs.Common.{◌≡◌, ℕ, List, ◌+◌, ◌++◌, ◌∷◌, [], min, sym, ap, ◌∙◌, subst, arith, deque_capacity}
 use Rattle.echo_window.specs.Echo.{Arrival, first_met}
 use Rattle.echo_window.specs.Laid.{came_of, laid, told}
 use Rattle.echo_window.specs.declared.kept.Kept.{Kept}
@@ -9,11 +9,11 @@ use Rattle.echo_window.proofs.Laying.{laid-put}
 use Rattle.echo_window.proofs.Showing.{as-window, came-is, count-is, octets-are}
 use Rattle.echo_window.proofs.window.Window.put.Goals as goal
 
-pub put-requires : goal.put-requires
-put-requires c =
+pub put_behind-requires : goal.put_behind-requires
+put_behind-requires c =
     let o = octets-are _ _ _ (came-is c.self.view_is) c.self.invariant.stands.whole in
     let room = fits-told c.args.self.now.came (first_met (told c.args.met.now)) c.requires.room in
-    omega (arith, o, room.1, length-append c.args.met.now.addresses.now c.args.met.now.rest.now)
+    omega (arith, o, room.1)
 
 pub push_back_reserved-requires : goal.push_back_reserved-requires
 push_back_reserved-requires c =
@@ -28,14 +28,14 @@ invariant_of-self c =
     let o = octets-are _ _ _ v c.self.invariant.stands.whole in
     let room = fits-told c.args.self.now.came (first_met (told c.args.met.now)) c.requires.room in
     let items = c.push_back_reserved.ensures.items in
-    let text = c.args.met.now.addresses.now ++ c.args.met.now.rest.now in
-    let kept : Kept = record { place = c.args.met.now.place; moment = c.args.met.now.moment; at = c.octets_before.result; length = c.length_of.result; before = c.enter.result; alike = c.is_alike.result; awaited = c.copied.result } in
+    let text = c.args.met.now.frame.now in
+    let kept : Kept = record { place = c.args.met.now.place; moment = c.args.met.now.moment; at = c.octets_before.result; length = c.octet_count.result; before = c.enter.result; alike = c.is_alike.result; awaited = c.copied.result } in
     let more = deque_capacity c.push_back_reserved.new.self in
     let x = kept-put (deque_capacity c.self.inside.frames) more c.self.inside.index.gone c.self.inside.index.passed c.enter.new.self.gone c.enter.new.self.passed c.args.bucket (min (c.self.inside.index.gone + (c.len.result + 1)) 18446744073709551615) kept text c.self.inside.frames.items c.self.inside.row c.self.inside.index.latest.items c.enter.new.self.latest.items
-    (omega (arith, c.push_back_reserved.ensures.capacity, c.self.invariant.stands.reserved)) (omega (arith, n, room.0)) (omega (arith, o, room.1)) c.length_of.ensures c.requires.bucket c.requires.known
+    (omega (arith, c.push_back_reserved.ensures.capacity, c.self.invariant.stands.reserved)) (omega (arith, n, room.0)) (omega (arith, o, room.1)) c.octet_count.ensures c.requires.bucket c.requires.known
     (omega (arith, c.len.ensures, c.self.inside.frames.ok.0)) c.enter.ensures.before (omega (arith, c.octets_before.ensures, c.count.ensures)) c.enter.ensures.gone c.enter.ensures.passed c.enter.ensures.latest (λ said low few. c.is_alike.ensures said low few) c.self.invariant in
-    subst (λ (ks : List Kept). IsKept ks c.put.new.self more c.enter.new.self.gone c.enter.new.self.passed c.enter.new.self.latest.items) (sym {A = List Kept} items)
-    (subst (λ (row : List ℕ). IsKept (c.self.inside.frames.items ++ kept ∷ []) row more c.enter.new.self.gone c.enter.new.self.passed c.enter.new.self.latest.items) (sym c.put.ensures) x)
+    subst (λ (ks : List Kept). IsKept ks c.put_behind.new.row more c.enter.new.self.gone c.enter.new.self.passed c.enter.new.self.latest.items) (sym {A = List Kept} items)
+    (subst (λ (row : List ℕ). IsKept (c.self.inside.frames.items ++ kept ∷ []) row more c.enter.new.self.gone c.enter.new.self.passed c.enter.new.self.latest.items) (sym c.put_behind.ensures) x)
 
 pub returns : goal.returns
 returns c =
@@ -43,12 +43,12 @@ returns c =
     let n = count-is _ _ _ v in
     let room = fits-told c.args.self.now.came (first_met (told c.args.met.now)) c.requires.room in
     let items = c.push_back_reserved.ensures.items in
-    let kept : Kept = record { place = c.args.met.now.place; moment = c.args.met.now.moment; at = c.octets_before.result; length = c.length_of.result; before = c.enter.result; alike = c.is_alike.result; awaited = c.copied.result } in
-    let text = c.args.met.now.addresses.now ++ c.args.met.now.rest.now in
+    let kept : Kept = record { place = c.args.met.now.place; moment = c.args.met.now.moment; at = c.octets_before.result; length = c.octet_count.result; before = c.enter.result; alike = c.is_alike.result; awaited = c.copied.result } in
+    let text = c.args.met.now.frame.now in
     let last : came_of kept text ≡ first_met (told c.args.met.now) = cc in
     as-window _ _ c.args.self.now _ _ c.self.view_is
-    (ap (λ (ks : List Kept). laid ks c.put.new.self) items
-    ∙ ap (λ (row : List ℕ). laid (c.self.inside.frames.items ++ kept ∷ []) row) c.put.ensures
-    ∙ laid-put c.self.inside.frames.items c.self.inside.row kept text c.self.invariant.stands.whole c.length_of.ensures
+    (ap (λ (ks : List Kept). laid ks c.put_behind.new.row) items
+    ∙ ap (λ (row : List ℕ). laid (c.self.inside.frames.items ++ kept ∷ []) row) c.put_behind.ensures
+    ∙ laid-put c.self.inside.frames.items c.self.inside.row kept text c.self.invariant.stands.whole c.octet_count.ensures
     ∙ ap (λ (l : List Arrival). l ++ came_of kept text ∷ []) v
     ∙ ap (λ (x : Arrival). c.args.self.now.came ++ x ∷ []) last)

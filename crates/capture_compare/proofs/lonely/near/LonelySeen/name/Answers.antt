@@ -1,34 +1,26 @@
-use Rattle.std.proofs.Common.{◌≡◌, ◌∙◌, sym, ap}
-use Rattle.std.specs.List.{remove}
+use Rattle.std.proofs.Common.{◌∙◌}
 use Rattle.record_match.specs.Kept.{told}
-use Rattle.capture_compare.specs.Near.{near_in, without}
-use Rattle.capture_compare.proofs.Looking.{first-near, none-near}
+use Rattle.capture_compare.proofs.Looking.{inside-all, named-at, none-named}
 use Rattle.capture_compare.proofs.lonely.near.LonelySeen.name.Goals as goal
+
+pub let_go-requires : goal.let_go-requires
+let_go-requires c = inside-all 256 c.in-Some.i c.pass.new.self c.in-Some.ensures.inside
 
 pub returns-in-Some-clause-near : goal.returns-in-Some-clause-near
 returns-in-Some-clause-near c =
-    let r = told c.args.sent.now in
-    let found = first-near c.args.reading c.args.within r c.as_slice.result.now c.in-Some.i c.in-Some.difference c.in-Some.ensures in
-    let same : c.as_slice.result.now ≡ c.args.self.now = c.as_slice.ensures.value ∙ c.self.view_is in
-    sym found.0 ∙ ap (near_in c.args.reading c.args.within r) same
+    (named-at c.args.reading c.args.within (told c.args.sent.now) c.args.self.now c.pass.new.self c.in-Some.i c.in-Some.difference c.let_go.result
+    c.pass.ensures c.in-Some.ensures c.let_go.ensures.number).0
 
 pub returns-in-Some-clause-left : goal.returns-in-Some-clause-left
 returns-in-Some-clause-left c =
-    let r = told c.args.sent.now in
-    let found = first-near c.args.reading c.args.within r c.as_slice.result.now c.in-Some.i c.in-Some.difference c.in-Some.ensures in
-    let same : c.as_slice.result.now ≡ c.args.self.now = c.as_slice.ensures.value ∙ c.self.view_is in
-    c.remove.ensures.items ∙ ap (λ l. remove l c.in-Some.i) (sym c.as_slice.ensures.value) ∙ sym found.1 ∙ ap (without c.args.reading c.args.within r) same
+    c.let_go.ensures.left
+    ∙ (named-at c.args.reading c.args.within (told c.args.sent.now) c.args.self.now c.pass.new.self c.in-Some.i c.in-Some.difference c.let_go.result
+    c.pass.ensures c.in-Some.ensures c.let_go.ensures.number).1
 
 pub returns-in-None-clause-near : goal.returns-in-None-clause-near
 returns-in-None-clause-near c =
-    let r = told c.args.sent.now in
-    let none = none-near c.args.reading c.args.within r c.as_slice.result.now c.in-None.ensures in
-    let same : c.as_slice.result.now ≡ c.args.self.now = c.as_slice.ensures.value ∙ c.self.view_is in
-    sym none.0 ∙ ap (near_in c.args.reading c.args.within r) same
+    (none-named c.args.reading c.args.within (told c.args.sent.now) c.args.self.now c.pass.new.self c.pass.ensures c.in-None.ensures).0
 
 pub returns-in-None-clause-left : goal.returns-in-None-clause-left
 returns-in-None-clause-left c =
-    let r = told c.args.sent.now in
-    let none = none-near c.args.reading c.args.within r c.as_slice.result.now c.in-None.ensures in
-    let same : c.as_slice.result.now ≡ c.args.self.now = c.as_slice.ensures.value ∙ c.self.view_is in
-    sym same ∙ sym none.1 ∙ ap (without c.args.reading c.args.within r) same
+    (none-named c.args.reading c.args.within (told c.args.sent.now) c.args.self.now c.pass.new.self c.pass.ensures c.in-None.ensures).1

@@ -1,9 +1,0 @@
-mod calls;
-mod checks;
-mod filter_db_tests;
-mod flood_lists_tests;
-mod many_ports_tests;
-mod pool_tests;
-mod ports;
-mod shared_tables_tests;
-mod tunnel_learning_tests;

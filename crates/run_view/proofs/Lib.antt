@@ -1,0 +1,12 @@
+pub mod Answered
+pub mod Comments
+pub mod Heads
+pub mod Left
+pub mod Lengths
+pub mod Lines
+pub mod Outlets
+pub mod Packets
+pub mod Reading
+pub mod Telling
+pub mod Turned
+pub mod Views

@@ -35,10 +35,10 @@ _tep() {
     case ${COMP_WORDS[1]} in
         run)
             case $before,$cur in
-                -s,* | --settings,* | -c,* | --changes,* | -u,* | --underlay,* | --pcapng,* | --digests,*) _tep_offers files ;;
+                -s,* | --settings,* | -c,* | --changes,* | -u,* | --underlay,* | --list,* | --pcapng,* | --digests,*) _tep_offers files ;;
                 -o,* | --out,*) _tep_offers folders ;;
                 --within,* | --tables-at,* | --why,* | --segments,*) _tep_offers words "" ;;
-                *,-*) _tep_offers words "--settings --changes --underlay --out --both --within --tables --tables-at --why --summary --talkers --json --pcapng --segments --digests --quiet --help --version" ;;
+                *,-*) _tep_offers words "--settings --changes --underlay --out --both --within --list --tables --tables-at --why --summary --talkers --json --pcapng --segments --digests --quiet --help --version" ;;
                 *) _tep_offers files ;;
             esac
             ;;

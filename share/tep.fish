@@ -29,6 +29,7 @@ complete -c tep -n '__tep_command run' -s u -l underlay -r -F -d 'The capture of
 complete -c tep -n '__tep_command run' -s o -l out -x -a '(__fish_complete_directories)' -d 'The folder that outputs are written into, which must exist; needed where nothing else is written or printed'
 complete -c tep -n '__tep_command run' -l both -d 'Leaves out what the switch itself sent, where captures have both directions'
 complete -c tep -n '__tep_command run' -l within -x -d 'How long behind its frame that may come, with --both: 500us, 2ms, 1s; 10ms without it'
+complete -c tep -n '__tep_command run' -l list -r -F -d 'Writes each record that --both leaves out, and which one it is the echo of; \'-\' is standard output'
 complete -c tep -n '__tep_command run' -l tables -d 'Prints the live entries of all tables at the last event'
 complete -c tep -n '__tep_command run' -l tables-at -x -d 'Prints those at this moment, in nanoseconds'
 complete -c tep -n '__tep_command run' -l why -x -d 'Prints why an event came out as it did: 7, p2:7, u:13, c:1, drop:30, drop:any, mac:M; repeatable'

@@ -74,8 +74,8 @@ ends 0 "" run "${a[@]}" --pcapng - "${captures[@]}"
 cmp "$folder/view.pcapng" "$folder/stdout" || complain "on standard output it is another"
 ends 0 "" run "${a[@]}" -o "$folder/again" --summary --json --pcapng "$folder/told.pcapng" "${captures[@]}"
 cmp "$folder/view.pcapng" "$folder/told.pcapng" || complain "beside a summary it is another"
-for word in --summary --tables --talkers --tables-at=7 --why=1; do
-    ends 2 "error: standard output can be one thing only: --pcapng - or what --why, --tables, --tables-at, --summary and --talkers print" \
+for word in --summary --tables --talkers --tables-at=7 --why=1 --list=-; do
+    ends 2 "error: standard output can be one thing only: --pcapng -, --list - or what --why, --tables, --tables-at, --summary and --talkers print" \
         run "${a[@]}" --pcapng - "$word" "${captures[@]}"
 done
 ./tep run "${a[@]}" --pcapng - "${captures[@]}" 2>"$folder/stderr" | head -c 1 >/dev/null
@@ -118,6 +118,9 @@ ends 3 "write $folder/link: it is $folder/plain/port2.pcap itself" run "${a[@]}"
 mkdir "$folder/new"
 ends 3 "write $folder/new/port1.pcap: it is $folder/new/port1.pcap itself" \
     run "${a[@]}" -o "$folder/new" --pcapng "$folder/new/port1.pcap" "${captures[@]}"
+# A list of what is left out is such a file, too, and another than the view's.
+ends 3 "write ${captures[0]}: it is ${captures[0]} itself" run "${a[@]}" --list "${captures[0]}" "${captures[@]}"
+ends 3 "write $folder/one: it is $folder/one itself" run "${a[@]}" --pcapng "$folder/one" --list "$folder/one" "${captures[@]}"
 ends 3 "write $folder/none/view: no such folder" run "${a[@]}" -o "$folder/again" --pcapng "$folder/none/view" "${captures[@]}"
 ends 3 "write /dev/full: no space left" run "${a[@]}" -o "$folder/again" --pcapng /dev/full "${captures[@]}"
 for file in decisions.txt port1.pcap port2.pcap port3.pcap underlay.pcap; do

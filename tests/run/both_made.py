@@ -1,5 +1,6 @@
 """Made captures that hold both directions, against the model of both_model.py: a run with --both is the run on the records
-that the model takes in, and run and check tell what the model left out.
+that the model takes in, run and check tell what the model left out, and a list has a line for each record of it; and of the
+echoes as many are told where the run sent nothing as there are by its decision lines.
 
     both_made.py COUNT [FIRST]      so many runs, each of an endpoint's settings and of 20 scenarios one after another, from a seed
     both_made.py seed SEED FOLDER   the run of a seed, whose files stay in a folder; input_*.pcap are what the model takes in
@@ -83,6 +84,20 @@ class Files:
         return status, stdout, told + [stderr], *self.left("whole")
 
 
+def told_sent(stderr, outs, lines):
+    """What standard error says of a run with a list: of the echoes at a port, too, how many stand where the run sent nothing."""
+    sent = {tuple(line.split(" ")[2:4]): line.split(" ")[5:] for line in lines}
+    astray = {}
+    for (tap, _), _, arrival in outs:
+        if arrival and not any(place.startswith(f"{tap}=") for place in sent[arrival.record[0], str(arrival.record[1])]):
+            astray[tap] = astray.get(tap, 0) + 1
+    found = []
+    for line in stderr:
+        tap = line.split(":")[0].strip()
+        found += [line, f"  {tap}: {astray[tap]} of them where the run sent nothing"] if "left out" in line and tap in astray else [line]
+    return found
+
+
 def differing(what, got, wanted):
     """A line of where two lists, or two texts, differ first."""
     if got == wanted:
@@ -107,6 +122,8 @@ def tried(seed, kept=None):
         named = files.words(made.captures, rests)
         status, stdout, stderr, lines, left = files.runs("both", named, *both, "--summary")
         _, checked, _ = files.ends("check", *named)
+        listed = files.ends("run", *both, "--list", "list.txt", *named)
+        rows = (files.folder / "list.txt").read_text().splitlines()
         # Parts of cut captures are merged without their counts.
         summed = [] if rests else ["--summary"]
         merged = files.merged(named, both, summed) if seed % 4 == 1 else None
@@ -115,6 +132,8 @@ def tried(seed, kept=None):
     wrong += differing("standard error", stderr, model.run_lines(made.word or "10ms"))
     wrong += differing("standard error of the run on inputs", plain[2], [])
     wrong += differing("decision line", lines, numbered(plain[3], model.inputs, model.counts))
+    wrong += differing("list", rows, model.list_lines())
+    wrong += differing("a run with a list", [*listed[:2], *listed[2]], [0, "", *told_sent(stderr, model.outs, lines)])
     wrong += differing("summary", stdout, counted(plain[1], model.counts))
     wrong += [f"{name} leaves otherwise" for name in sorted({*left, *plain[4]}) if left.get(name) != plain[4].get(name)]
     told = [line for line in checked.splitlines() if "elsewhere" in line or "left us" in line or line.startswith("both:")]

@@ -110,11 +110,16 @@ def without_tag(octets):
     return octets[:12] + octets[16:] if octets[12:14] == TAG and len(octets) >= 18 else octets
 
 
-class Arrival:
-    """A frame that came to a segment, and the ports where it may be met yet."""
+def time_of(time):
+    """A time in the greatest unit up to a millisecond of which it is a whole number."""
+    return next(f"{time // length}{unit}" for unit, length in (("ms", MILLISECOND), ("us", 1000), ("ns", 1)) if time % length == 0)
 
-    def __init__(self, moment, frame, ports):
-        self.moment, self.frame, self.ports = moment, frame, ports
+
+class Arrival:
+    """A frame that came to a segment by a record, and the ports where it may be met yet."""
+
+    def __init__(self, moment, record, frame, ports):
+        self.moment, self.record, self.frame, self.ports = moment, record, frame, ports
 
 
 class Window:
@@ -138,20 +143,20 @@ class Window:
             self.go()
 
     def meet(self, port, moment, frame):
-        """Whether a record is the echo of a frame, which it is the first of at this port."""
+        """The frame that a record is the echo of, which it is the first of at this port."""
         self.let_pass(moment)
         for arrival in self.by_frame.get(frame, ()):
             if port in arrival.ports:
                 arrival.ports.discard(port)
-                return True
-        return False
+                return arrival
+        return None
 
-    def enter(self, moment, frame, ports):
-        """A frame comes, and where there is no room for it the earliest ones go."""
+    def enter(self, moment, record, frame, ports):
+        """A frame comes by a record, and where there is no room for it the earliest ones go."""
         self.let_pass(moment)
         if not ports:
             return
-        arrival = Arrival(moment, frame, ports)
+        arrival = Arrival(moment, record, frame, ports)
         self.arrivals.append(arrival)
         self.by_frame.setdefault(frame, deque()).append(arrival)
         self.octets += len(frame)
@@ -186,29 +191,39 @@ class Model:
         self.settings, self.window = copy.deepcopy(settings), Window(within)
         self.inputs = {tap: [] for tap in captures}
         self.counts = {tap: len(records) for tap, records in captures.items()}
+        # Of each record that is left out its tap and number, the moment, and the frame that it is an echo of, if it is one.
+        self.outs = []
         for moment, _, at, tap, happening in events(captures, changes):
             if tap is None:
                 self.settings.make(happening)
-            elif self.takes(tap, moment, *happening[1:]):
+            elif self.takes((tap, at + 1), moment, *happening[1:]):
                 self.inputs[tap].append(at)
 
-    def takes(self, tap, moment, octets, original):
+    def takes(self, record, moment, octets, original):
         """Whether a record is input. What it brings to a segment enters the window then."""
+        tap = record[0]
         if tap == "u":
             if outer_source(octets) in self.settings.underlay.own:
+                self.outs.append((record, moment, None))
                 return False
             place, came = None, self.settings.came_by(octets, original)
         else:
             place = int(tap[1:])
-            if self.window.meet(place, moment, without_tag(octets)):
+            if arrival := self.window.meet(place, moment, without_tag(octets)):
+                self.outs.append((record, moment, arrival))
                 return False
             came = self.settings.came_at(place, octets, original)
         if came:
-            self.window.enter(moment, came[1], self.settings.outs(came[0], place))
+            self.window.enter(moment, record, came[1], self.settings.outs(came[0], place))
         return True
 
     def left_out(self, tap):
         return self.counts[tap] - len(self.inputs[tap])
+
+    def list_lines(self):
+        """The list of what is left out."""
+        of = lambda moment, arrival: f"of {arrival.record[0]} {arrival.record[1]}, {time_of(moment - arrival.moment)}"
+        return [f"{tap} {number} {of(moment, arrival) if arrival else 'sent'}" for (tap, number), moment, arrival in self.outs]
 
     def forgotten_line(self, within):
         """The line of what was forgotten for want of room, for a time as it was named."""

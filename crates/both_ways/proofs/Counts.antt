@@ -57,15 +57,15 @@ record_length true counts at v = refl
 record_length false counts at v = length-set counts at v
 
 -- of what happens
-happened_counts : (s : Seen) (moment : ℕ) (h : Happening) (place : ℕ) → place < length s.counts → get_or s.counts place 0 ≤ 2 ^ 64 - 1
-    → get_or (happened s moment h).counts place 0 ≡ min (2 ^ 64 - 1) (get_or s.counts place 0 + more (happens_in s moment h) (happens_at place h))
-happened_counts s moment (happenings.Change index) place there few = as_it_is (2 ^ 64 - 1) (get_or s.counts place 0) few
-happened_counts s moment (happenings.Record tap c) place there few =
+happened_counts : (s : Seen) (moment number : ℕ) (h : Happening) (place : ℕ) → place < length s.counts → get_or s.counts place 0 ≤ 2 ^ 64 - 1
+    → get_or (happened s moment number h).counts place 0 ≡ min (2 ^ 64 - 1) (get_or s.counts place 0 + more (happens_in s moment h) (happens_at place h))
+happened_counts s moment number (happenings.Change index) place there few = as_it_is (2 ^ 64 - 1) (get_or s.counts place 0) few
+happened_counts s moment number (happenings.Record tap c) place there few =
     record_counts (is_input s tap moment c) s.counts (place_of tap) place (2 ^ 64 - 1) there few
 
-happened_length : (s : Seen) (moment : ℕ) (h : Happening) → length (happened s moment h).counts ≡ length s.counts
-happened_length s moment (happenings.Change index) = refl
-happened_length s moment (happenings.Record tap c) =
+happened_length : (s : Seen) (moment number : ℕ) (h : Happening) → length (happened s moment number h).counts ≡ length s.counts
+happened_length s moment number (happenings.Change index) = refl
+happened_length s moment number (happenings.Record tap c) =
     record_length (is_input s tap moment c) s.counts (place_of tap) (min (2 ^ 64 - 1) (get_or s.counts (place_of tap) 0 + 1))
 
 -- how many stand at a place, with one more in front
@@ -80,8 +80,8 @@ counts_behind s [] place there few = as_it_is (2 ^ 64 - 1) (get_or s.counts plac
 counts_behind s (e ∷ es) place there few =
     let m = 2 ^ 64 - 1 in
     let k = behind s e in
-    let size : length k.counts ≡ length s.counts = happened_length s e.moment e.happening in
-    let one = happened_counts s e.moment e.happening place there few in
+    let size : length k.counts ≡ length s.counts = happened_length s e.moment e.number e.happening in
+    let one = happened_counts s e.moment e.number e.happening place there few in
     let rest = counts_behind k es place (along place (length s.counts) (length k.counts) (sym size) there) (at_most m (get_or k.counts place 0) (get_or s.counts place 0 + more (is_taken s e) (stands_at place e)) one) in
     in_turn m (get_or s.counts place 0) (more (is_taken s e) (stands_at place e)) (count_by (stands_at place) (left_out k es)) (get_or k.counts place 0) (get_or (behind_all k es).counts place 0)
     (count_by (stands_at place) (left_out s (e ∷ es))) one rest (count_more (is_taken s e) (stands_at place) e (left_out k es))

@@ -26,11 +26,11 @@ asked_keeps w (Port port) moment c = refl
 asked_keeps w AtUnderlay moment c = refl
 
 -- at what happens
-lost_then : (s : Seen) (moment : ℕ) (h : Happening) → (happened s moment h).window.forgotten ≡ with_ages s.window.forgotten (lost_when s moment h)
-lost_then s moment (happenings.Change index) = refl
-lost_then s moment (happenings.Record tap c) =
+lost_then : (s : Seen) (moment number : ℕ) (h : Happening) → (happened s moment number h).window.forgotten ≡ with_ages s.window.forgotten (lost_when s moment number h)
+lost_then s moment number (happenings.Change index) = refl
+lost_then s moment number (happenings.Record tap c) =
     let w = window_asked s.window tap moment c in
-    let o = entering s tap moment c in
+    let o = entering s tap moment number c in
     lost_here w o ∙ ap (λ (f : Forgotten). with_ages f (lost_to w o)) (asked_keeps s.window tap moment c)
 
 -- along some events
@@ -39,8 +39,8 @@ lost_along s [] = refl
 lost_along s (e ∷ es) =
     let k = behind s e in
     lost_along k es
-    ∙ ap (λ (f : Forgotten). with_ages f (forgotten_ages k es)) (lost_then s e.moment e.happening)
-    ∙ sym (with_both s.window.forgotten (lost_when s e.moment e.happening) (forgotten_ages k es))
+    ∙ ap (λ (f : Forgotten). with_ages f (forgotten_ages k es)) (lost_then s e.moment e.number e.happening)
+    ∙ sym (with_both s.window.forgotten (lost_when s e.moment e.number e.happening) (forgotten_ages k es))
 
 -- how many they are
 one_more : (m a n : ℕ) → min (min (a + 1) m + n) m ≡ min (a + suc n) m

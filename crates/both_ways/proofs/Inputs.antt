@@ -28,26 +28,26 @@ abbrev IsAt : ℕ → Option Record → Type 0
 IsAt moment None = Unit {0}
 IsAt moment (Some r) = r.moment ≡ moment
 
-at_awaiting : (place moment : ℕ) (text : List ℕ) (awaited : List Bool) → IsAt moment (awaiting place moment text awaited)
-at_awaiting place moment text awaited = by (list_all not awaited)
+at_awaiting : (place moment number : ℕ) (text : List ℕ) (awaited : List Bool) → IsAt moment (awaiting place moment number text awaited)
+at_awaiting place moment number text awaited = by (list_all not awaited)
   where
-    by : (q : Bool) → IsAt moment (if q then None else Some (record { place = place; moment = moment; frame = text; awaited = awaited }))
+    by : (q : Bool) → IsAt moment (if q then None else Some (record { place = place; number = number; moment = moment; frame = text; awaited = awaited }))
     by true = tt
     by false = refl
 
-at_brought : (sends_at : ℕ → List Bool) (place moment : ℕ) (x : Result Entered Refused) → IsAt moment (brought sends_at place moment x)
-at_brought sends_at place moment (Ok x) = at_awaiting place moment (text_of x.frame) (set (sends_at x.vid) place false)
-at_brought sends_at place moment (Err refused) = tt
+at_brought : (sends_at : ℕ → List Bool) (place moment number : ℕ) (x : Result Entered Refused) → IsAt moment (brought sends_at place moment number x)
+at_brought sends_at place moment number (Ok x) = at_awaiting place moment number (text_of x.frame) (set (sends_at x.vid) place false)
+at_brought sends_at place moment number (Err refused) = tt
 
 at_one : (moment : ℕ) (q : Bool) (o : Option Record) → IsAt moment o → IsAt moment (if q then o else None)
 at_one moment true o h = h
 at_one moment false o h = tt
 
-comes_at : (S : Settings) (sends_at : ℕ → List Bool) (tap : Tap) (moment : ℕ) (c : Captured) → IsAt moment (coming S sends_at tap moment c)
-comes_at S sends_at (Port port) moment c =
+comes_at : (S : Settings) (sends_at : ℕ → List Bool) (tap : Tap) (moment number : ℕ) (c : Captured) → IsAt moment (coming S sends_at tap moment number c)
+comes_at S sends_at (Port port) moment number c =
     let x = came_at S.ports S.overlay port c.original c.octets in
-    at_one moment (is_port (length S.ports.ports) port) (brought sends_at port moment x) (at_brought sends_at port moment x)
-comes_at S sends_at AtUnderlay moment c = at_brought sends_at 0 moment (came_by S.overlay c.original c.octets)
+    at_one moment (is_port (length S.ports.ports) port) (brought sends_at port moment number x) (at_brought sends_at port moment number x)
+comes_at S sends_at AtUnderlay moment number c = at_brought sends_at 0 moment number (came_by S.overlay c.original c.octets)
 
 -- ---- what is known before an event
 
@@ -76,54 +76,54 @@ enters_not w moment came owed true o isnt k = absurd cc
 enters_not w moment came owed false o isnt k = k
 
 -- where segments send frames out is known by the settings in force
-as_known : (s : Seen) (w : Window) (moment : ℕ) (tap : Tap) (c : Captured) (came owed : List Arrival) → s.sends_at ≡ outlets s.settings.ports
-    → (let o = coming s.settings s.sends_at tap moment c in KeepsAt w moment (with_last came o) (with_last owed o))
-    → let o = coming s.settings (outlets s.settings.ports) tap moment c in KeepsAt w moment (with_last came o) (with_last owed o)
-as_known s w moment tap c came owed known =
-    subst (λ (f : ℕ → List Bool). KeepsAt w moment (with_last came (coming s.settings f tap moment c)) (with_last owed (coming s.settings f tap moment c))) known
+as_known : (s : Seen) (w : Window) (moment number : ℕ) (tap : Tap) (c : Captured) (came owed : List Arrival) → s.sends_at ≡ outlets s.settings.ports
+    → (let o = coming s.settings s.sends_at tap moment number c in KeepsAt w moment (with_last came o) (with_last owed o))
+    → let o = coming s.settings (outlets s.settings.ports) tap moment number c in KeepsAt w moment (with_last came o) (with_last owed o)
+as_known s w moment number tap c came owed known =
+    subst (λ (f : ℕ → List Bool). KeepsAt w moment (with_last came (coming s.settings f tap moment number c)) (with_last owed (coming s.settings f tap moment number c))) known
 
 -- ---- one event
 
-abbrev Goes : Bool → Seen → Before → ℕ → Happening → Type 0
-Goes is_input s b moment h = (happens_in s moment h ≡ is_input) × KeepsAt (happened s moment h).window moment b.came b.owed
+abbrev Goes : Bool → Seen → Before → ℕ → ℕ → Happening → Type 0
+Goes is_input s b moment number h = (happens_in s moment h ≡ is_input) × KeepsAt (happened s moment number h).window moment b.came b.owed
 
-comes : (s : Seen) (came owed : List Arrival) (moment : ℕ) (h : Happening) → s.sends_at ≡ outlets s.settings.ports → KeepsAt s.window moment came owed → MayComeIn s.window.within (before s came owed) moment h
-    → lost_when s moment h ≡ [] → Goes true s (came_behind (before s came owed) moment h) moment h
-comes s came owed moment (happenings.Change index) known k may none = (refl, k)
-comes s came owed moment (happenings.Record (Port port) c) known k may none =
+comes : (s : Seen) (came owed : List Arrival) (moment number : ℕ) (h : Happening) → s.sends_at ≡ outlets s.settings.ports → KeepsAt s.window moment came owed → MayComeIn s.window.within (before s came owed) moment h
+    → lost_when s moment number h ≡ [] → Goes true s (came_behind (before s came owed) moment number h) moment number h
+comes s came owed moment number (happenings.Change index) known k may none = (refl, k)
+comes s came owed moment number (happenings.Record (Port port) c) known k may none =
     let r = asked port moment c.octets in
     let is : is_input s (Port port) moment c ≡ true = ap not (no_echo s.window.within r came owed s.window.came may k) in (
       is,
-      as_known s (happened s moment (happenings.Record (Port port) c)).window moment (Port port) c came owed known
-          (enters_if (window_asked s.window (Port port) moment c) moment came owed (is_input s (Port port) moment c) (coming s.settings s.sends_at (Port port) moment c)
-          is (comes_at s.settings s.sends_at (Port port) moment c) none (keeps_unmet s.window.within r came owed s.window.came may k)),
+      as_known s (happened s moment number (happenings.Record (Port port) c)).window moment number (Port port) c came owed known
+          (enters_if (window_asked s.window (Port port) moment c) moment came owed (is_input s (Port port) moment c) (coming s.settings s.sends_at (Port port) moment number c)
+          is (comes_at s.settings s.sends_at (Port port) moment number c) none (keeps_unmet s.window.within r came owed s.window.came may k)),
     )
-comes s came owed moment (happenings.Record AtUnderlay c) known k may none =
+comes s came owed moment number (happenings.Record AtUnderlay c) known k may none =
     let is : is_input s AtUnderlay moment c ≡ true = ap not may in (
       is,
-      as_known s (happened s moment (happenings.Record AtUnderlay c)).window moment AtUnderlay c came owed known
-          (enters_if s.window moment came owed (is_input s AtUnderlay moment c) (coming s.settings s.sends_at AtUnderlay moment c) is (comes_at s.settings s.sends_at AtUnderlay moment c) none k),
+      as_known s (happened s moment number (happenings.Record AtUnderlay c)).window moment number AtUnderlay c came owed known
+          (enters_if s.window moment came owed (is_input s AtUnderlay moment c) (coming s.settings s.sends_at AtUnderlay moment number c) is (comes_at s.settings s.sends_at AtUnderlay moment number c) none k),
     )
 
-goes_out : (s : Seen) (came owed : List Arrival) (n moment : ℕ) (h : Happening) → KeepsAt s.window moment came owed → MayBeSent s.window.within (before s came owed) n moment h
-    → Goes false s (sent_behind (before s came owed) n moment h) moment h
-goes_out s came owed n moment (happenings.Change index) k may = absurd may
-goes_out s came owed n moment (happenings.Record (Port port) c) k may =
+goes_out : (s : Seen) (came owed : List Arrival) (n moment number : ℕ) (h : Happening) → KeepsAt s.window moment came owed → MayBeSent s.window.within (before s came owed) n moment h
+    → Goes false s (sent_behind (before s came owed) n moment h) moment number h
+goes_out s came owed n moment number (happenings.Change index) k may = absurd may
+goes_out s came owed n moment number (happenings.Record (Port port) c) k may =
     let r = asked port moment c.octets in
     let isnt : is_input s (Port port) moment c ≡ false = ap not (an_echo s.window.within r came owed s.window.came n may k) in (
       isnt,
-      enters_not (window_asked s.window (Port port) moment c) moment came (sent_behind (before s came owed) n moment (happenings.Record (Port port) c)).owed (is_input s (Port port) moment c) (coming s.settings s.sends_at (Port port) moment c)
+      enters_not (window_asked s.window (Port port) moment c) moment came (sent_behind (before s came owed) n moment (happenings.Record (Port port) c)).owed (is_input s (Port port) moment c) (coming s.settings s.sends_at (Port port) moment number c)
           isnt (keeps_met s.window.within r came owed s.window.came n may k),
     )
-goes_out s came owed n moment (happenings.Record AtUnderlay c) k may =
+goes_out s came owed n moment number (happenings.Record AtUnderlay c) k may =
     let isnt : is_input s AtUnderlay moment c ≡ false = ap not may in
-    (isnt, enters_not s.window moment came owed (is_input s AtUnderlay moment c) (coming s.settings s.sends_at AtUnderlay moment c) isnt k)
+    (isnt, enters_not s.window moment came owed (is_input s AtUnderlay moment c) (coming s.settings s.sends_at AtUnderlay moment number c) isnt k)
 
 -- whichever it is
 goes : (s : Seen) (came owed : List Arrival) (mark : Option ℕ) (e : Event) → s.sends_at ≡ outlets s.settings.ports → KeepsAt s.window e.moment came owed → MayBe s.window.within (before s came owed) mark e
-    → lost_when s e.moment e.happening ≡ [] → Goes (is_none mark) s (behind_marked (before s came owed) mark e) e.moment e.happening
-goes s came owed None e known k may none = comes s came owed e.moment e.happening known k may none
-goes s came owed (Some n) e known k may none = goes_out s came owed n e.moment e.happening k may
+    → lost_when s e.moment e.number e.happening ≡ [] → Goes (is_none mark) s (behind_marked (before s came owed) mark e) e.moment e.number e.happening
+goes s came owed None e known k may none = comes s came owed e.moment e.number e.happening known k may none
+goes s came owed (Some n) e known k may none = goes_out s came owed n e.moment e.number e.happening k may
 
 -- the settings behind it, and the time
 same_time : (w : Window) (tap : Tap) (moment : ℕ) (c : Captured) (o : Option Record) → (window_with (window_asked w tap moment c) o).within ≡ w.within
@@ -132,24 +132,24 @@ same_time w (Port port) moment c (Some r) = refl
 same_time w AtUnderlay moment c None = refl
 same_time w AtUnderlay moment c (Some r) = refl
 
-time_stays : (s : Seen) (moment : ℕ) (h : Happening) → (happened s moment h).window.within ≡ s.window.within
-time_stays s moment (happenings.Change index) = refl
-time_stays s moment (happenings.Record tap c) = same_time s.window tap moment c (entering s tap moment c)
+time_stays : (s : Seen) (moment number : ℕ) (h : Happening) → (happened s moment number h).window.within ≡ s.window.within
+time_stays s moment number (happenings.Change index) = refl
+time_stays s moment number (happenings.Record tap c) = same_time s.window tap moment c (entering s tap moment number c)
 
-came_before : (s : Seen) (came owed : List Arrival) (moment : ℕ) (h : Happening) → let b = came_behind (before s came owed) moment h in b ≡ before (happened s moment h) b.came b.owed
-came_before s came owed moment (happenings.Change index) = refl
-came_before s came owed moment (happenings.Record tap c) = refl
+came_before : (s : Seen) (came owed : List Arrival) (moment number : ℕ) (h : Happening) → let b = came_behind (before s came owed) moment number h in b ≡ before (happened s moment number h) b.came b.owed
+came_before s came owed moment number (happenings.Change index) = refl
+came_before s came owed moment number (happenings.Record tap c) = refl
 
-sent_before : (s : Seen) (came owed : List Arrival) (n moment : ℕ) (h : Happening) → MayBeSent s.window.within (before s came owed) n moment h
-    → let b = sent_behind (before s came owed) n moment h in b ≡ before (happened s moment h) b.came b.owed
-sent_before s came owed n moment (happenings.Change index) may = absurd may
-sent_before s came owed n moment (happenings.Record (Port port) c) may = refl
-sent_before s came owed n moment (happenings.Record AtUnderlay c) may = refl
+sent_before : (s : Seen) (came owed : List Arrival) (n moment number : ℕ) (h : Happening) → MayBeSent s.window.within (before s came owed) n moment h
+    → let b = sent_behind (before s came owed) n moment h in b ≡ before (happened s moment number h) b.came b.owed
+sent_before s came owed n moment number (happenings.Change index) may = absurd may
+sent_before s came owed n moment number (happenings.Record (Port port) c) may = refl
+sent_before s came owed n moment number (happenings.Record AtUnderlay c) may = refl
 
 marked_before : (s : Seen) (came owed : List Arrival) (mark : Option ℕ) (e : Event) → MayBe s.window.within (before s came owed) mark e
     → let b = behind_marked (before s came owed) mark e in b ≡ before (behind s e) b.came b.owed
-marked_before s came owed None e may = came_before s came owed e.moment e.happening
-marked_before s came owed (Some n) e may = sent_before s came owed n e.moment e.happening may
+marked_before s came owed None e may = came_before s came owed e.moment e.number e.happening
+marked_before s came owed (Some n) e may = sent_before s came owed n e.moment e.number e.happening may
 
 -- ---- all of them
 
@@ -169,13 +169,13 @@ given_back s came owed moment (m ∷ ms) known k rising may none =
     let e = m.event in
     let t = behind s e in
     let b = behind_marked (before s came owed) m.sent_for e in
-    let lost = no_parts (lost_when s e.moment e.happening) (forgotten_ages t (events ms)) none in
+    let lost = no_parts (lost_when s e.moment e.number e.happening) (forgotten_ages t (events ms)) none in
     let now = keeps_later s.window.within moment e.moment came owed s.window.came rising.0 k in
     let one = goes s came owed m.sent_for e known now may.0 lost.0 in
     let rest : EachMayBe t.window.within (before t b.came b.owed) ms =
-    subst (λ (w : ℕ). EachMayBe w (before t b.came b.owed) ms) (sym (time_stays s e.moment e.happening))
+    subst (λ (w : ℕ). EachMayBe w (before t b.came b.owed) ms) (sym (time_stays s e.moment e.number e.happening))
     (subst (λ (c : Before). EachMayBe s.window.within c ms) (marked_before s came owed m.sent_for e may.0) may.1) in
-    in_front (is_taken s e) m.sent_for e (taken t (events ms)) ms one.0 (given_back t b.came b.owed e.moment ms (known_behind s e.moment e.happening known) one.1 rising.1 rest lost.1)
+    in_front (is_taken s e) m.sent_for e (taken t (events ms)) ms one.0 (given_back t b.came b.owed e.moment ms (known_behind s e.moment e.number e.happening known) one.1 rising.1 rest lost.1)
 
 pub gives_the_inputs_back : GivesTheInputsBack
 gives_the_inputs_back within S cs ms both =

@@ -1,5 +1,6 @@
 mod Changing
 mod Bringing
+mod Causes
 mod Counts
 mod Forgetting
 mod Inputs

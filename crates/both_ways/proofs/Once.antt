@@ -5,7 +5,7 @@ use Rattle.std.specs.List.{filter, find, position}
 use Rattle.both_ways.specs.Laws.{IsNew, LeavesWhole, NoneIsLike, StandsOnce, brought_by, is_like, is_of_others, with_one}
 use Rattle.both_ways.specs.Sieve.{Seen, asked, behind, fresh, happened, happens_in, is_taken, taken, window_asked, window_with}
 use Rattle.both_ways.proofs.Others.{same_underlay}
-use Rattle.echo_window.specs.Echo.{Arrival, Record, Window, first_met, fits, is_awaited, is_echo_of, is_elsewhere, is_soon, met_again, met_at, newest, recent}
+use Rattle.echo_window.specs.Echo.{Arrival, Record, Window, first_met, fits, is_awaited, is_echo_of, is_elsewhere, is_soon, met_again, met_at, newest, origin_of, recent}
 use Rattle.overlay.specs.declared.underlay.settings.Underlay.{Underlay}
 use Rattle.timeline.specs.Captured.{Captured}
 use Rattle.timeline.specs.declared.event.Event.{Event}
@@ -94,7 +94,7 @@ input came s moment (happenings.Change index) covers new = refl
 input came s moment (happenings.Record AtUnderlay c) covers new = refl
 input came s moment (happenings.Record (Port port) c) covers new =
     let r = asked port moment c.octets in
-    ap (λ (o : Option Arrival). not (is_some (option_map (λ (x : Arrival). x.place) o)))
+    ap (λ (o : Option Arrival). not (is_some (option_map origin_of o)))
     (none-found s.window.within r s.window.came (covers (is_like s.window.within r) (as-none s.window.within r came new)))
 
 -- the frames that came in behind what happens
@@ -102,10 +102,10 @@ covered_by : (came : List Record) (w : Window) (o : Option Record) → Covers ca
 covered_by came w None covers = covers
 covered_by came w (Some r) covers = more came w r covers
 
-covered : (came : List Record) (s : Seen) (moment : ℕ) (h : Happening) → Covers came s.window.came → Covers (with_one came (brought_by s moment h)) (happened s moment h).window.came
-covered came s moment (happenings.Change index) covers = covers
-covered came s moment (happenings.Record tap c) covers =
-    covered_by came (window_asked s.window tap moment c) (brought_by s moment (happenings.Record tap c)) (still came s.window tap moment c covers)
+covered : (came : List Record) (s : Seen) (moment number : ℕ) (h : Happening) → Covers came s.window.came → Covers (with_one came (brought_by s moment number h)) (happened s moment number h).window.came
+covered came s moment number (happenings.Change index) covers = covers
+covered came s moment number (happenings.Record tap c) covers =
+    covered_by came (window_asked s.window tap moment c) (brought_by s moment number (happenings.Record tap c)) (still came s.window tap moment c covers)
 
 -- one event more
 in_front : (U : Underlay) (q : Bool) (e : Event) (a es : List Event) → q ≡ is_of_others U e.happening → a ≡ filter (λ x. is_of_others U x.happening) es
@@ -117,9 +117,9 @@ whole : (came : List Record) (s : Seen) (es : List Event) → Covers came s.wind
 whole came s [] covers once = refl
 whole came s (e ∷ es) covers once =
     let k = behind s e in
-    let rest = whole (with_one came (brought_by s e.moment e.happening)) k es (covered came s e.moment e.happening covers) once.1 in
+    let rest = whole (with_one came (brought_by s e.moment e.number e.happening)) k es (covered came s e.moment e.number e.happening covers) once.1 in
     in_front s.settings.overlay.underlay (is_taken s e) e (taken k es) es (input came s e.moment e.happening covers once.0)
-    (rest ∙ ap (λ (U : Underlay). filter (λ x. is_of_others U x.happening) es) (same_underlay s e.moment e.happening))
+    (rest ∙ ap (λ (U : Underlay). filter (λ x. is_of_others U x.happening) es) (same_underlay s e.moment e.number e.happening))
 
 pub leaves_whole : LeavesWhole
 leaves_whole within S cs es once = whole [] (fresh within S cs) es (λ p none. tt) once

@@ -25,9 +25,9 @@ happens_so s moment (happenings.Change index) = refl
 happens_so s moment (happenings.Record (Port port) c) = and_false (happens_in s moment (happenings.Record (Port port) c))
 happens_so s moment (happenings.Record AtUnderlay c) = and_true (not (is_sent s.settings.overlay.underlay c.octets))
 
-pub same_underlay : (s : Seen) (moment : ℕ) (h : Happening) → (happened s moment h).settings.overlay.underlay ≡ s.settings.overlay.underlay
-same_underlay s moment (happenings.Change index) = behind_change s.changes index s.settings
-same_underlay s moment (happenings.Record tap c) = refl
+pub same_underlay : (s : Seen) (moment number : ℕ) (h : Happening) → (happened s moment number h).settings.overlay.underlay ≡ s.settings.overlay.underlay
+same_underlay s moment number (happenings.Change index) = behind_change s.changes index s.settings
+same_underlay s moment number (happenings.Record tap c) = refl
 
 -- one more in front
 in_front : (p : Event → Bool) (q : Bool) (e : Event) (es : List Event) → filter p (if q then e ∷ es else es) ≡ (if q && p e then e ∷ filter p es else filter p es)
@@ -42,4 +42,4 @@ takes_what_others_sent s (e ∷ es) =
     in_front at_underlay (is_taken s e) e (taken (behind s e) es)
     ∙ ap (λ (q : Bool). if q then e ∷ rest else rest) (happens_so s e.moment e.happening)
     ∙ ap (λ (r : List Event). if happens_by_others s.settings.overlay.underlay e.happening then e ∷ r else r)
-    (takes_what_others_sent (behind s e) es ∙ ap (λ (U : Underlay). filter (λ x. happens_by_others U x.happening) es) (same_underlay s e.moment e.happening))
+    (takes_what_others_sent (behind s e) es ∙ ap (λ (U : Underlay). filter (λ x. happens_by_others U x.happening) es) (same_underlay s e.moment e.number e.happening))

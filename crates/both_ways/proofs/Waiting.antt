@@ -5,7 +5,7 @@ use Rattle.std.specs.Prelude.{is_some, option_map}
 use Rattle.std.specs.List.{find, position}
 use Rattle.std.proofs.lemmas.Bool.{true≢false, eqb-true, eqb-false, eq-eqb, leb-true, le-leb, and_parts}
 use Rattle.std.proofs.lemmas.List.Quantifiers.{position-Some}
-use Rattle.echo_window.specs.Echo.{Arrival, Record, first_met, is_awaited, is_echo_of, is_elsewhere, is_soon, met_again, met_at}
+use Rattle.echo_window.specs.Echo.{Arrival, Record, first_met, is_awaited, is_echo_of, is_elsewhere, is_soon, met_again, met_at, origin_of}
 use Rattle.wire.specs.Octets.{is_same}
 use Rattle.wire.proofs.OctetsLemmas.{is_same-true}
 
@@ -247,12 +247,12 @@ module _ (w : ℕ) (r : Record) where
           rw (no_loss (waits w place frame u) came i there.0 there.1 none) (fewer place frame)
 
   -- and what waits is found
-  pub found : (low : ℕ) (cs : List Arrival) → Rise low cs r.moment → 1 ≤ how_many (waits w r.place r.frame r.moment) cs → is_some (option_map (λ (c : Arrival). c.place) (find (is_echo_of w r) cs)) ≡ true
+  pub found : (low : ℕ) (cs : List Arrival) → Rise low cs r.moment → 1 ≤ how_many (waits w r.place r.frame r.moment) cs → is_some (option_map origin_of (find (is_echo_of w r) cs)) ≡ true
   found low [] k h = absurd (omega (arith, h))
   found low (c ∷ cs) k h = by (is_echo_of w r c) refl (found c.moment cs k.1)
     where
       by : (q : Bool) → is_echo_of w r c ≡ q
-          → (1 ≤ how_many (waits w r.place r.frame r.moment) cs → is_some (option_map (λ (d : Arrival). d.place) (find (is_echo_of w r) cs)) ≡ true)
-          → is_some (option_map (λ (d : Arrival). d.place) (cond q (Some c) (find (is_echo_of w r) cs))) ≡ true
+          → (1 ≤ how_many (waits w r.place r.frame r.moment) cs → is_some (option_map origin_of (find (is_echo_of w r) cs)) ≡ true)
+          → is_some (option_map origin_of (cond q (Some c) (find (is_echo_of w r) cs))) ≡ true
       by true e rest = refl
       by false e rest = rest (omega (arith, h, one_same (not_waiting r.moment c (omega arith) (rise_le c.moment r.moment cs k.1) e)))

@@ -8,7 +8,7 @@ use Rattle.std.proofs.lemmas.List.Folds.{find_at}
 use Rattle.std.proofs.lemmas.List.Quantifiers.{position-Some}
 use Rattle.std.proofs.lemmas.Option.{slice_get_past}
 use Rattle.both_ways.proofs.Waiting.{Enough, Rise, found, how_many, how_many_put, met_echo, met_enough, never_waits, no_gain, one_same, owed_less, rise_high, rise_low, waits}
-use Rattle.echo_window.specs.Echo.{Arrival, Record, after, crowded_by, crowded_out, echo_of, entered, first_met, fits, is_echo_of, is_met_everywhere, met_again, newest, recent}
+use Rattle.echo_window.specs.Echo.{Arrival, Record, after, crowded_by, crowded_out, echo_of, entered, first_met, fits, is_echo_of, is_met_everywhere, met_again, newest, origin_of, recent}
 use Rattle.wire.specs.Octets.{is_same}
 
 -- no frame that didn't come in
@@ -137,12 +137,12 @@ none_found p (c ∷ cs) h = by (p c) h (none_found p cs)
     by true e rest = absurd (omega (arith, e))
     by false e rest = rest (omega (arith, e))
 
-found_none : (p : Arrival → Bool) (cs : List Arrival) → option_map (λ (c : Arrival). c.place) (find p cs) ≡ None → how_many p cs ≡ 0
+found_none : (p : Arrival → Bool) (cs : List Arrival) → option_map origin_of (find p cs) ≡ None → how_many p cs ≡ 0
 found_none p [] h = refl
 found_none p (c ∷ cs) h = by (p c) h (found_none p cs)
   where
-    by : (q : Bool) → option_map (λ (d : Arrival). d.place) (cond q (Some c) (find p cs)) ≡ None
-        → (option_map (λ (d : Arrival). d.place) (find p cs) ≡ None → how_many p cs ≡ 0) → cond q 1 0 + how_many p cs ≡ 0
+    by : (q : Bool) → option_map origin_of (cond q (Some c) (find p cs)) ≡ None
+        → (option_map origin_of (find p cs) ≡ None → how_many p cs ≡ 0) → cond q 1 0 + how_many p cs ≡ 0
     by true e rest = absurd cc
     by false e rest = omega (arith, rest e)
 
@@ -198,7 +198,7 @@ keeps_met w r came owed kept n e k = by (position (is_echo_of w r) (recent w r.m
     by : (o : Option ℕ) → position (is_echo_of w r) (recent w r.moment kept) ≡ o
         → Keeps w r.moment came (met_again r owed n) (elim o [ Some i ↦ met_again r (recent w r.moment kept) i | None ↦ recent w r.moment kept ])
     by None at =
-        let none : echo_of w (recent w r.moment kept) r ≡ None = ap (option_map (λ (c : Arrival). c.place)) (found_nowhere (is_echo_of w r) (recent w r.moment kept) at) in
+        let none : echo_of w (recent w r.moment kept) r ≡ None = ap (option_map origin_of) (found_nowhere (is_echo_of w r) (recent w r.moment kept) at) in
         absurd (true≢false (sym (an_echo w r came owed (recent w r.moment kept) n e here) ∙ ap is_some none))
     by (Some i) at = record {
       rising = rise_met r 0 r.moment (recent w r.moment kept) i here.rising;

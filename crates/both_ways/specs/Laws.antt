@@ -2,7 +2,9 @@
 use Rattle.std.specs.Prelude.{◌≡◌, ◌<◌, ⊤, ℕ, ◌+◌, ◌-◌, ◌^◌, min, nat_eq, nat_le, ◌&&◌, not, Bool, true, false, if◌then◌else◌}
 use Rattle.std.specs.Prelude.{List, [], ◌∷◌, ◌++◌, filter, length, map, Option, Some, None, is_none, slice_index, slice_index_or}
 use Rattle.std.specs.List.{count_by}
-use Rattle.both_ways.specs.Sieve.{Seen, asked, behind, behind_all, coming, entering, fresh, is_taken, taken, window_asked}
+use Rattle.both_ways.specs.Sieve.{Seen, asked, behind, behind_all, coming, entering, fresh, is_taken, left_outs, place_in, taken}
+use Rattle.both_ways.specs.Sieve.{window_asked}
+use Rattle.both_ways.specs.declared.left_out.LeftOut.{LeftOut}
 use Rattle.both_ways.specs.Told.{is_sent, outlets, place_of}
 use Rattle.echo_window.specs.Echo.{Arrival, Record, Window, crowded_by, echo_of, first_met, is_echo_of, lesser, met_again, recent}
 use Rattle.endpoint_core.specs.Opened.{settings_told}
@@ -45,6 +47,17 @@ CountsWhatIsLeftOut =
     (within : ℕ) (S : Settings) (cs : List TimedChange) (es : List Event) (place : ℕ) → place < 256
     → slice_index (behind_all (fresh within S cs) es).counts place
     ≡ min (2 ^ 64 - 1) (count_by (stands_at place) (left_out (fresh within S cs) es))
+
+-- each of these tells one of these events, in order: its place, its number in its capture and its moment
+abbrev pub TellEach : List LeftOut → List Event → Type 0
+TellEach [] [] = ⊤
+TellEach [] (e ∷ es) = ⊥
+TellEach (l ∷ ls) [] = ⊥
+TellEach (l ∷ ls) (e ∷ es) = ((l.place ≡ place_in e.happening) × (l.number ≡ e.number) × (l.moment ≡ e.moment)) × TellEach ls es
+
+-- a law: of a run's events each one that isn't input is told, and no other
+abbrev pub TellsWhatIsLeftOut : Type 0
+TellsWhatIsLeftOut = (s : Seen) (es : List Event) → TellEach (left_outs s es) (left_out s es)
 
 -- a law: behind a run, each segment is known to send frames out at those of its members that are up, by the settings in force
 abbrev pub SendsByTheSettings : Type 0
@@ -90,9 +103,9 @@ IsNew within came moment (happenings.Record (Port port) c) = NoneIsLike within (
 IsNew within came moment (happenings.Record AtUnderlay c) = ⊤
 
 -- the frame that comes in with what happens, if one does
-abbrev pub brought_by : Seen → ℕ → Happening → Option Record
-brought_by s moment (happenings.Change index) = None
-brought_by s moment (happenings.Record tap c) = entering s tap moment c
+abbrev pub brought_by : Seen → ℕ → ℕ → Happening → Option Record
+brought_by s moment number (happenings.Change index) = None
+brought_by s moment number (happenings.Record tap c) = entering s tap moment number c
 
 -- frames that came in, and one more, or none
 abbrev pub with_one : List Record → Option Record → List Record
@@ -104,7 +117,7 @@ abbrev pub StandsOnce : List Record → Seen → List Event → Type 0
 StandsOnce came s [] = ⊤
 StandsOnce came s (e ∷ es) =
     IsNew s.window.within came e.moment e.happening
-    × StandsOnce (with_one came (brought_by s e.moment e.happening)) (behind s e) es
+    × StandsOnce (with_one came (brought_by s e.moment e.number e.happening)) (behind s e) es
 
 -- what happens is no packet that the endpoint sent
 abbrev pub is_of_others : Underlay → Happening → Bool
@@ -126,14 +139,14 @@ lost_to w None = []
 lost_to w (Some r) = crowded_by (recent w.within r.moment w.came) r
 
 -- the same of what happens
-abbrev pub lost_when : Seen → ℕ → Happening → List ℕ
-lost_when s moment (happenings.Change index) = []
-lost_when s moment (happenings.Record tap c) = lost_to (window_asked s.window tap moment c) (entering s tap moment c)
+abbrev pub lost_when : Seen → ℕ → ℕ → Happening → List ℕ
+lost_when s moment number (happenings.Change index) = []
+lost_when s moment number (happenings.Record tap c) = lost_to (window_asked s.window tap moment c) (entering s tap moment number c)
 
 -- the same of some events in a row
 abbrev pub forgotten_ages : Seen → List Event → List ℕ
 forgotten_ages s [] = []
-forgotten_ages s (e ∷ es) = lost_when s e.moment e.happening ++ forgotten_ages (behind s e) es
+forgotten_ages s (e ∷ es) = lost_when s e.moment e.number e.happening ++ forgotten_ages (behind s e) es
 
 -- the least of numbers, if there are any
 abbrev pub least : List ℕ → Option ℕ
@@ -201,10 +214,10 @@ with_last came None = came
 with_last came (Some r) = came ++ first_met r ∷ []
 
 -- what came in behind what comes in
-abbrev pub came_behind : Before → ℕ → Happening → Before
-came_behind b moment (happenings.Change index) = record b { settings = settings_behind b.changes (happenings.Change index) b.settings }
-came_behind b moment (happenings.Record tap c) =
-    let o = coming b.settings (outlets b.settings.ports) tap moment c in
+abbrev pub came_behind : Before → ℕ → ℕ → Happening → Before
+came_behind b moment number (happenings.Change index) = record b { settings = settings_behind b.changes (happenings.Change index) b.settings }
+came_behind b moment number (happenings.Record tap c) =
+    let o = coming b.settings (outlets b.settings.ports) tap moment number c in
     record b { came = with_last b.came o; owed = with_last b.owed o }
 
 -- and behind what is sent for the frame of this number
@@ -220,7 +233,7 @@ MayBe within b (Some n) e = MayBeSent within b n e.moment e.happening
 
 -- what came in behind it
 abbrev pub behind_marked : Before → Option ℕ → Event → Before
-behind_marked b None e = came_behind b e.moment e.happening
+behind_marked b None e = came_behind b e.moment e.number e.happening
 behind_marked b (Some n) e = sent_behind b n e.moment e.happening
 
 -- and so each of some events in a row

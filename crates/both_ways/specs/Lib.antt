@@ -4,3 +4,4 @@ pub mod Members
 pub mod Outlets
 pub mod Laws
 pub mod Line
+pub mod Placed

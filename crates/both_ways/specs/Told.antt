@@ -28,6 +28,10 @@ abbrev pub place_of : Tap → ℕ
 place_of (Port port) = port
 place_of AtUnderlay = 0
 
+-- the place of a number
+abbrev pub tap_at : ℕ → Tap
+tap_at place = if place == 0 then AtUnderlay else Port place
+
 -- a frame without its tag (IEEE 802.1Q, 9.6): one of a customer, also where it has a priority alone. A frame without a tag, or
 -- one whose tag is cut, is as it stands
 abbrev pub untagged : List ℕ → List ℕ
@@ -81,13 +85,14 @@ outlets P vid = with_places no_places (filter (is_up (row_at P vid)) (member_por
 abbrev pub text_of : Frame → List ℕ
 text_of f = (f.dst ++ f.src) ++ f.body
 
--- what a window is told of a frame of these octets that came in at a place and may leave by these ports, if there are any
-abbrev pub awaiting : ℕ → ℕ → List ℕ → List Bool → Option Record
-awaiting place moment text awaited =
-    if list_all not awaited then None else Some (record { place = place; moment = moment; frame = text; awaited = awaited })
+-- what a window is told of a frame of these octets that came in at a place, at a moment, by the record of this number there, and
+-- may leave by these ports, if there are any
+abbrev pub awaiting : ℕ → ℕ → ℕ → List ℕ → List Bool → Option Record
+awaiting place moment number text awaited =
+    if list_all not awaited then None else Some (record { place = place; number = number; moment = moment; frame = text; awaited = awaited })
 
 -- what a window is told of a frame that came to a segment by way of a place, where each segment sends frames out at these ports:
 -- it may leave by all of them but the one where it came in. Nothing of what was refused before
-abbrev pub brought : (ℕ → List Bool) → ℕ → ℕ → Result Arrival Refused → Option Record
-brought sends_at place moment (Ok x) = awaiting place moment (text_of x.frame) (set (sends_at x.vid) place false)
-brought sends_at place moment (Err refused) = None
+abbrev pub brought : (ℕ → List Bool) → ℕ → ℕ → ℕ → Result Arrival Refused → Option Record
+brought sends_at place moment number (Ok x) = awaiting place moment number (text_of x.frame) (set (sends_at x.vid) place false)
+brought sends_at place moment number (Err refused) = None

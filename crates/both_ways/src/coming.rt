@@ -10,27 +10,29 @@ use crate::outlets::Outlets;
 use echo_window::{FrameText, PlaceSet, Record, Window};
 use endpoint_core::Forwarding;
 use overlay::ports::PortSet;
+use timeline::Event;
 
-/// Tells a window of a frame that came in at a port, whose octets without tag are these, if it came to a segment, with the ports by
-/// which it may leave. Where it may leave by none, there is nothing to tell.
+/// Tells a window of a frame that came in at a port with an event, whose octets without tag are these, if it came to a segment, with
+/// the ports by which it may leave. Where it may leave by none, there is nothing to tell.
 pub(crate) fn enter_frame(
     window: &mut Window,
     outlets: &mut Outlets,
     ports: &PortSet,
     port: u8,
-    moment: u64,
+    event: &Event,
     came: &Forwarding,
     text: &FrameText,
 )
     requires { (x : Entered) → came.now ≡ Ok x → text.now ≡ text_of x.frame }
-    ensures window { window.new ≡ window_with window.old (brought (kept_outlets outlets.old ports.now) port moment came.now) }
+    ensures window { window.new ≡ window_with window.old (brought (kept_outlets outlets.old ports.now) port event.now.moment
+        event.now.number came.now) }
     ensures outlets { (vid : ℕ) → kept_outlets outlets.new ports.now vid ≡ kept_outlets outlets.old ports.now vid }
 {
     let Ok(arrival) = came else {
         return;
     };
     let awaited = outlets.from_place(ports, arrival.segment(), port);
-    enter(window, port, moment, text, &awaited);
+    enter(window, port, event, text, &awaited);
 }
 
 /// The same of a frame that a packet at the underlay brought.
@@ -38,10 +40,11 @@ pub(crate) fn enter_packet(
     window: &mut Window,
     outlets: &mut Outlets,
     ports: &PortSet,
-    moment: u64,
+    event: &Event,
     came: &Forwarding,
 )
-    ensures window { window.new ≡ window_with window.old (brought (kept_outlets outlets.old ports.now) 0 moment came.now) }
+    ensures window { window.new ≡ window_with window.old (brought (kept_outlets outlets.old ports.now) 0 event.now.moment
+        event.now.number came.now) }
     ensures outlets { (vid : ℕ) → kept_outlets outlets.new ports.now vid ≡ kept_outlets outlets.old ports.now vid }
 {
     let Ok(arrival) = came else {
@@ -50,33 +53,36 @@ pub(crate) fn enter_packet(
     let awaited = outlets.from_place(ports, arrival.segment(), 0);
     let frame = arrival.frame();
     let text = FrameText::new(frame.addresses, frame.body);
-    enter(window, 0, moment, &text, &awaited);
+    enter(window, 0, event, &text, &awaited);
 }
 
 /// Tells a window of a frame that came in at a place, if it may be met again anywhere.
 #[inline(always)]
-fn enter(window: &mut Window, place: u8, moment: u64, text: &FrameText, awaited: &PlaceSet)
-    ensures { window.new ≡ window_with window.old (awaiting place moment text.now awaited.now) }
+fn enter(window: &mut Window, place: u8, event: &Event, text: &FrameText, awaited: &PlaceSet)
+    ensures { window.new
+        ≡ window_with window.old (awaiting place event.now.moment event.now.number text.now awaited.now) }
 {
     if awaited.is_empty() {
         return;
     }
-    window.enter(&record_of(place, moment, text, awaited));
+    window.enter(&record_of(place, event, text, awaited));
 }
 
 /// A frame that came in at a place, as a window is told of it.
 #[inline(always)]
 fn record_of<'a>(
     place: u8,
-    moment: u64,
+    event: &Event,
     frame: &'a FrameText<'a>,
     awaited: &'a PlaceSet,
 ) -> Record<'a>
-    ensures { record_told result ≡ record { place = place; moment = moment; frame = frame.now; awaited = awaited.now } }
+    ensures { let e = event.now in record_told result
+        ≡ record { place = place; number = e.number; moment = e.moment; frame = frame.now; awaited = awaited.now } }
 {
     Record {
         place,
-        moment,
+        number: event.number,
+        moment: event.moment,
         frame,
         awaited,
     }

@@ -1,6 +1,6 @@
 //! Laws of the definitions, as contracts of functions that do nothing.
 ghost use Rattle.both_ways.specs.Laws.{CountsWhatIsForgotten, CountsWhatIsLeftOut, GivesTheInputsBack, LeavesWhole};
-ghost use Rattle.both_ways.specs.Laws.{RunsTheSame, SendsByTheSettings, TakesInTurn, TakesWhatOthersSent};
+ghost use Rattle.both_ways.specs.Laws.{RunsTheSame, SendsByTheSettings, TakesInTurn, TakesWhatOthersSent, TellsWhatIsLeftOut};
 
 /// What is input of two rows of events, one behind the other, is what is of the first, and then what is of the second by all
 /// that is known behind the first.
@@ -11,6 +11,11 @@ pub fn takes_in_turn()
 /// Behind the events of a run, the count of a place is the number of its records that aren't input, up to 2^64 - 1.
 pub fn counts_what_is_left_out()
     ensures { CountsWhatIsLeftOut }
+{}
+
+/// Of the events of a run each one that isn't input is told, by its place, its number there and its moment, in order, and no other.
+pub fn tells_what_is_left_out()
+    ensures { TellsWhatIsLeftOut }
 {}
 
 /// Behind the events of a run each segment is known to send frames out at those of its members that are up by the settings in

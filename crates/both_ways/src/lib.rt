@@ -3,9 +3,11 @@
 //!
 //! Use first: [`BothWays`], a sieve of `stream_run`'s runs, is shown one event after another, of all places in order of
 //! moment, and says of each whether it is input; what isn't, it counts by places. [`BothWays::forgotten`] tells what it
-//! had no room for. It takes its memory when it is made.
+//! had no room for. It takes its memory when it is made. [`Audited`] is the same sieve with an [`Audit`], which is told of each
+//! record that is left out, a [`LeftOut`]; [`Placed`] counts echoes where the run didn't put their frame.
 //!
-//! Specs to read, in order: `specs/Told`, `specs/Sieve`, `specs/Laws`, `specs/Line`, and `echo_window`'s `specs/Echo`.
+//! Specs to read, in order: `specs/Told`, `specs/Sieve`, `specs/Laws`, `specs/Line`, `specs/Placed`, and `echo_window`'s
+//! `specs/Echo`.
 //!
 //! Proved: of every row of events, those are input that the definition takes, one by one: each change; at a port each
 //! frame that is no echo of one that came to a segment elsewhere which sends frames out there by the settings in force, but
@@ -32,6 +34,10 @@
 //! - How many frames went for want of room too early, and the least age of one, and the line that tells it with a time
 //!   below that age: `BothWays::forgotten`, `laws::counts_what_is_forgotten`, `ForgottenLine`.
 //! - Where segments send frames out is known by the settings in force, whatever changed: `laws::sends_by_the_settings`.
+//! - Who keeps account is told of each record that isn't input, and of no other: which one brought the frame that it is an echo
+//!   of, the earliest of several, or that the endpoint sent it (`Sieve for Audited`, `laws::tells_what_is_left_out`); its line
+//!   is the stated one (`LeftOut`). An echo is counted exactly where its frame isn't among the latest 4,096 that the run put at
+//!   ports, or was put at others (`Placed`).
 //!
 //! Why it is so: captures tell no directions, but a packet tells its sender. So at the underlay its outer source decides,
 //! and is read first and alone: what is cut, damaged, or carries whatever it does was sent by who stands there. A frame
@@ -46,15 +52,21 @@
 //! segment comes in, and kept until the next change.
 #![tactic(auto)]
 
+mod audited;
 mod coming;
 pub mod laws;
+mod left_out;
 mod line;
 mod nobody;
 mod outlets;
 mod place;
+mod placed;
 mod sender;
 mod sieve;
 
+pub use audited::{Audit, Audited};
+pub use left_out::{Cause, LeftOut};
 pub use line::ForgottenLine;
 pub use nobody::Nobody;
+pub use placed::Placed;
 pub use sieve::{BothWays, WITHIN};

@@ -35,7 +35,7 @@ impl fmt::Display for ForgottenLine {
 
 /// A time as a command line names it.
 #[derive(Clone, Copy)]
-struct Time(u64);
+pub(crate) struct Time(pub(crate) u64);
 
 impl fmt::Display for Time {
     ghost output = { λ time. Some (time_text time.0) };

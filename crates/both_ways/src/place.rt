@@ -1,6 +1,6 @@
 //! Where a record was captured, and what it is compared by.
 ghost use Rattle.std.specs.Prelude.{◌≡◌};
-ghost use Rattle.both_ways.specs.Told.{place_of, untagged};
+ghost use Rattle.both_ways.specs.Told.{place_of, tap_at, untagged};
 
 use echo_window::FrameText;
 use timeline::Tap;
@@ -13,6 +13,17 @@ pub(crate) fn place_of(tap: Tap) -> u8
     match tap {
         Tap::Port(port) => port,
         Tap::Underlay => 0,
+    }
+}
+
+/// The place of a number.
+pub(crate) fn tap_at(place: u8) -> Tap
+    ensures { result ≡ tap_at place }
+{
+    if place == 0 {
+        Tap::Underlay
+    } else {
+        Tap::Port(place)
     }
 }
 

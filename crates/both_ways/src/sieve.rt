@@ -1,5 +1,5 @@
 //! The sieve.
-ghost use Rattle.std.specs.Prelude.{◌≡◌, ◌∷◌, List, IfOk, if◌then◌else◌, is_some, slice_index, true};
+ghost use Rattle.std.specs.Prelude.{◌≡◌, ◌∷◌, List, IfOk, None, if◌then◌else◌, slice_index};
 ghost use Rattle.echo_window.specs.Echo.{behind_met, echo_of};
 ghost use Rattle.endpoint_core.specs.Kept.{state_of};
 ghost use Rattle.endpoint_core.specs.Settings.{Settings};
@@ -10,16 +10,17 @@ ghost use Rattle.timeline.specs.declared.event.Event.{Event as AnEvent};
 ghost use Rattle.timeline.specs.declared.event.Happening.TheVariants.{Record as Recorded};
 ghost use Rattle.timeline.specs.declared.source.Tap.TheVariants.{Port, Underlay as AtUnderlay};
 ghost use Rattle.both_ways.specs.Line.{line_of};
-ghost use Rattle.both_ways.specs.Sieve.{asked_of, behind, counted, fresh, is_input, is_taken, none_taken, record_behind};
-ghost use Rattle.both_ways.specs.Sieve.{seen_of, taken, with_settings};
+ghost use Rattle.both_ways.specs.Sieve.{asked_of, behind, cause_at, cause_of, counted, fresh, is_taken, none_taken};
+ghost use Rattle.both_ways.specs.Sieve.{record_behind, seen_of, taken, with_settings};
 ghost use Rattle.both_ways.specs.Told.{place_of};
 
 use crate::coming::{enter_frame, enter_packet};
+use crate::left_out::Cause;
 use crate::line::ForgottenLine;
 use crate::outlets::Outlets;
 use crate::place::{place_of, untagged};
 use crate::sender::is_sent;
-use echo_window::{Forgotten, FrameText, PlaceSet, Record, Window};
+use echo_window::{Forgotten, FrameText, Origin, PlaceSet, Record, Window};
 use endpoint_core::{Endpoint, Forwarding};
 use std::alloc::{AllocError, Global};
 use stream_run::Sieve;
@@ -29,7 +30,7 @@ use timeline::{Captured, Event, Happening, Tap};
 pub const WITHIN: u64 = 10_000_000;
 
 /// How many numbers a place could have.
-const PLACES: usize = 256;
+pub(crate) const PLACES: usize = 256;
 
 /// Which events of a run are input. It knows the latest frames that came in, and counts what it leaves out; the settings in force
 /// are those of the run's endpoint, which it is lent. Only [`BothWays::new`] takes memory.
@@ -69,10 +70,23 @@ impl BothWays {
             → taken (seen_of self.old (state_of endpoint.now).bridges.settings changes) (event.now ∷ es)
             ≡ (if result then event.now ∷ taken (seen_of self.new next changes) es else taken (seen_of self.new next changes) es) }
     {
+        self.cause(endpoint, event, came).is_none()
+    }
+
+    /// Why the next event isn't input, and nothing where it is: the same.
+    #[inline(always)]
+    pub fn cause(&mut self, endpoint: &Endpoint, event: &Event, came: &Forwarding) -> Option<Cause>
+        requires { IsBrought (state_of endpoint.now).bridges.settings event.now.happening came.now }
+        ensures answer { (changes : List ATimedChange)
+            → result ≡ cause_at (seen_of self.old (state_of endpoint.now).bridges.settings changes) event.now }
+        ensures behind { (changes : List ATimedChange)
+            → seen_of self.new (settings_behind changes event.now.happening (state_of endpoint.now).bridges.settings) changes
+            ≡ behind (seen_of self.old (state_of endpoint.now).bridges.settings changes) event.now }
+    {
         match &event.happening {
-            Happening::Change(_) => self.takes_change(),
+            Happening::Change(_) => self.cause_of_change(),
             Happening::Record(tap, captured) => {
-                self.takes_record(endpoint, *tap, event.moment, captured, came)
+                self.cause_of_record(endpoint, event, *tap, captured, came)
             }
         }
     }
@@ -108,98 +122,101 @@ impl BothWays {
     }
 
     /// A change is input: what is known of the settings in force goes.
-    fn takes_change(&mut self) -> bool
-        ensures answer { result ≡ true }
+    fn cause_of_change(&mut self) -> Option<Cause>
+        ensures answer { result ≡ None }
         ensures behind { (S : Settings) (changes : List ATimedChange) (before : Settings)
             → seen_of self.new S changes ≡ with_settings (seen_of self.old before changes) S }
     {
         self.outlets.forget();
-        true
+        None
     }
 
-    /// Whether a record is input.
-    fn takes_record(
+    /// Why a record of an event isn't input.
+    fn cause_of_record(
         &mut self,
         endpoint: &Endpoint,
+        event: &Event,
         tap: Tap,
-        moment: u64,
         captured: &Captured,
         came: &Forwarding,
-    ) -> bool
+    ) -> Option<Cause>
         requires { IsBrought (state_of endpoint.now).bridges.settings (Recorded tap captured.now) came.now }
-        ensures answer { (changes : List ATimedChange)
-            → result ≡ is_input (seen_of self.old (state_of endpoint.now).bridges.settings changes) tap moment captured.now }
+        ensures answer { (changes : List ATimedChange) → result
+            ≡ cause_of (seen_of self.old (state_of endpoint.now).bridges.settings changes) tap event.now.moment captured.now }
         ensures behind { (changes : List ATimedChange) → seen_of self.new (state_of endpoint.now).bridges.settings changes
-            ≡ record_behind (seen_of self.old (state_of endpoint.now).bridges.settings changes) tap moment captured.now }
+            ≡ record_behind (seen_of self.old (state_of endpoint.now).bridges.settings changes) tap event.now.moment event.now.number
+            captured.now }
     {
-        let is_input = match tap {
-            Tap::Port(port) => self.takes_frame(endpoint, port, moment, captured, came),
-            Tap::Underlay => self.takes_packet(endpoint, moment, captured, came),
+        let cause = match tap {
+            Tap::Port(port) => self.cause_of_frame(endpoint, event, port, captured, came),
+            Tap::Underlay => self.cause_of_packet(endpoint, event, captured, came),
         };
-        if !is_input {
+        if cause.is_some() {
             count(&mut self.left_out, place_of(tap));
         }
-        is_input
+        cause
     }
 
-    /// Whether a record at a port is input, uncounted.
-    fn takes_frame(
+    /// Why a record at a port isn't input, uncounted.
+    fn cause_of_frame(
         &mut self,
         endpoint: &Endpoint,
+        event: &Event,
         port: u8,
-        moment: u64,
         captured: &Captured,
         came: &Forwarding,
-    ) -> bool
+    ) -> Option<Cause>
         requires { IsBrought (state_of endpoint.now).bridges.settings (Recorded (Port port) captured.now) came.now }
-        ensures answer { (changes : List ATimedChange)
-            → result ≡ is_input (seen_of self.old (state_of endpoint.now).bridges.settings changes) (Port port) moment captured.now }
+        ensures answer { (changes : List ATimedChange) → result
+            ≡ cause_of (seen_of self.old (state_of endpoint.now).bridges.settings changes) (Port port) event.now.moment captured.now }
         ensures behind { (changes : List ATimedChange) → seen_of self.new (state_of endpoint.now).bridges.settings changes
-            ≡ record (record_behind (seen_of self.old (state_of endpoint.now).bridges.settings changes) (Port port) moment captured.now)
+            ≡ record (record_behind (seen_of self.old (state_of endpoint.now).bridges.settings changes) (Port port) event.now.moment
+            event.now.number captured.now)
             { counts = (seen_of self.old (state_of endpoint.now).bridges.settings changes).counts } }
     {
         let frame = untagged(captured.octets);
-        if is_echo(&mut self.window, port, moment, &frame) {
-            return false;
+        if let Some(origin) = echoed(&mut self.window, port, event.moment, &frame) {
+            return Some(Cause::Echo(origin));
         }
         enter_frame(
             &mut self.window,
             &mut self.outlets,
             endpoint.state().ports(),
             port,
-            moment,
+            event,
             came,
             &frame,
         );
-        true
+        None
     }
 
-    /// Whether a record at the underlay is input, uncounted.
-    fn takes_packet(
+    /// Why a record at the underlay isn't input, uncounted.
+    fn cause_of_packet(
         &mut self,
         endpoint: &Endpoint,
-        moment: u64,
+        event: &Event,
         captured: &Captured,
         came: &Forwarding,
-    ) -> bool
+    ) -> Option<Cause>
         requires { IsBrought (state_of endpoint.now).bridges.settings (Recorded AtUnderlay captured.now) came.now }
-        ensures answer { (changes : List ATimedChange)
-            → result ≡ is_input (seen_of self.old (state_of endpoint.now).bridges.settings changes) AtUnderlay moment captured.now }
+        ensures answer { (changes : List ATimedChange) → result
+            ≡ cause_of (seen_of self.old (state_of endpoint.now).bridges.settings changes) AtUnderlay event.now.moment captured.now }
         ensures behind { (changes : List ATimedChange) → seen_of self.new (state_of endpoint.now).bridges.settings changes
-            ≡ record (record_behind (seen_of self.old (state_of endpoint.now).bridges.settings changes) AtUnderlay moment captured.now)
+            ≡ record (record_behind (seen_of self.old (state_of endpoint.now).bridges.settings changes) AtUnderlay event.now.moment
+            event.now.number captured.now)
             { counts = (seen_of self.old (state_of endpoint.now).bridges.settings changes).counts } }
     {
         if is_sent(endpoint.under().settings(), captured.octets) {
-            return false;
+            return Some(Cause::Sent);
         }
         enter_packet(
             &mut self.window,
             &mut self.outlets,
             endpoint.state().ports(),
-            moment,
+            event,
             came,
         );
-        true
+        None
     }
 }
 
@@ -217,22 +234,24 @@ impl Sieve for BothWays {
     }
 }
 
-/// Whether a record at a port, whose octets without tag are these, is an echo of a frame that came in, by a window that meets it.
-fn is_echo(window: &mut Window, port: u8, moment: u64, frame: &FrameText) -> bool
-    ensures answer { result ≡ is_some (echo_of window.old.within window.old.came (asked_of port moment frame.now)) }
+/// Which record brought the frame that a record at a port, whose octets without tag are these, is an echo of, if it is one, by a
+/// window that meets it.
+fn echoed(window: &mut Window, port: u8, moment: u64, frame: &FrameText) -> Option<Origin>
+    ensures answer { result ≡ echo_of window.old.within window.old.came (asked_of port moment frame.now) }
     ensures behind { window.new ≡ behind_met window.old (asked_of port moment frame.now) }
 {
     let record = Record {
         place: port,
+        number: 0,
         moment,
         frame,
         awaited: &PlaceSet::new(),
     };
-    window.meet(&record).is_some()
+    window.meet(&record)
 }
 
 /// Counts one more at a place.
-fn count(counts: &mut [u64; PLACES], place: u8)
+pub(crate) fn count(counts: &mut [u64; PLACES], place: u8)
     ensures { counts.new ≡ counted counts.old place }
 {
     let at = usize::from(place);

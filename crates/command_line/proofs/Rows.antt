@@ -20,49 +20,54 @@ unfolding clap_on_literals
 a_check_of_captures = refl
 
 a_run : words_meant (codes "tep" ∷ codes "run" ∷ codes "--settings" ∷ codes "s" ∷ codes "--underlay" ∷ codes "u" ∷ codes "--out" ∷ codes "d" ∷ codes "p1" ∷ codes "p2" ∷ [])
-    ≡ Some (run (codes "s") None (codes "u") (Some (codes "d")) (codes "p1" ∷ codes "p2" ∷ []) false None [] false false None None false None false false None)
+    ≡ Some (run (codes "s") None (codes "u") (Some (codes "d")) (codes "p1" ∷ codes "p2" ∷ []) false None [] false false None None false None None false false None)
 unfolding clap_on_literals
 a_run = refl
 
 a_run_that_tells : words_meant (codes "tep" ∷ codes "run" ∷ codes "-ss" ∷ codes "-uu" ∷ codes "-od" ∷ codes "p1" ∷ codes "--tables" ∷ codes "--tables-at=70" ∷ codes "--why" ∷ codes "7" ∷ codes "--why" ∷ codes "u:1" ∷ [])
-    ≡ Some (run (codes "s") None (codes "u") (Some (codes "d")) (codes "p1" ∷ []) true (Some 70) (codes "7" ∷ codes "u:1" ∷ []) false false None None false None false false None)
+    ≡ Some (run (codes "s") None (codes "u") (Some (codes "d")) (codes "p1" ∷ []) true (Some 70) (codes "7" ∷ codes "u:1" ∷ []) false false None None false None None false false None)
 unfolding clap_on_literals
 a_run_that_tells = refl
 
 a_run_that_counts : words_meant (codes "tep" ∷ codes "run" ∷ codes "-ss" ∷ codes "-uu" ∷ codes "-od" ∷ codes "--summary" ∷ codes "p1" ∷ [])
-    ≡ Some (run (codes "s") None (codes "u") (Some (codes "d")) (codes "p1" ∷ []) false None [] true false None None false None false false None)
+    ≡ Some (run (codes "s") None (codes "u") (Some (codes "d")) (codes "p1" ∷ []) false None [] true false None None false None None false false None)
 unfolding clap_on_literals
 a_run_that_counts = refl
 
 a_part_of_a_run : words_meant (codes "tep" ∷ codes "run" ∷ codes "-ss" ∷ codes "-uu" ∷ codes "-od" ∷ codes "--segments" ∷ codes "1-3,none" ∷ codes "p1" ∷ [])
-    ≡ Some (run (codes "s") None (codes "u") (Some (codes "d")) (codes "p1" ∷ []) false None [] false false (Some (codes "1-3,none")) None false None false false None)
+    ≡ Some (run (codes "s") None (codes "u") (Some (codes "d")) (codes "p1" ∷ []) false None [] false false (Some (codes "1-3,none")) None false None None false false None)
 unfolding clap_on_literals
 a_part_of_a_run = refl
 
 a_part_with_digests : words_meant (codes "tep" ∷ codes "run" ∷ codes "-ss" ∷ codes "-uu" ∷ codes "-od" ∷ codes "--digests=f" ∷ codes "--segments" ∷ codes "7" ∷ codes "p1" ∷ [])
-    ≡ Some (run (codes "s") None (codes "u") (Some (codes "d")) (codes "p1" ∷ []) false None [] false false (Some (codes "7")) (Some (codes "f")) false None false false None)
+    ≡ Some (run (codes "s") None (codes "u") (Some (codes "d")) (codes "p1" ∷ []) false None [] false false (Some (codes "7")) (Some (codes "f")) false None None false false None)
 unfolding clap_on_literals
 a_part_with_digests = refl
 
 a_run_that_only_tells : words_meant (codes "tep" ∷ codes "run" ∷ codes "-ss" ∷ codes "-uu" ∷ codes "--summary" ∷ codes "p1" ∷ [])
-    ≡ Some (run (codes "s") None (codes "u") None (codes "p1" ∷ []) false None [] true false None None false None false false None)
+    ≡ Some (run (codes "s") None (codes "u") None (codes "p1" ∷ []) false None [] true false None None false None None false false None)
 unfolding clap_on_literals
 a_run_that_only_tells = refl
 
 a_run_on_both_directions : words_meant (codes "tep" ∷ codes "run" ∷ codes "-ss" ∷ codes "-uu" ∷ codes "-od" ∷ codes "p1" ∷ codes "--both" ∷ codes "--within" ∷ codes "2ms" ∷ [])
-    ≡ Some (run (codes "s") None (codes "u") (Some (codes "d")) (codes "p1" ∷ []) false None [] false false None None true (Some (codes "2ms")) false false None)
+    ≡ Some (run (codes "s") None (codes "u") (Some (codes "d")) (codes "p1" ∷ []) false None [] false false None None true (Some (codes "2ms")) None false false None)
 unfolding clap_on_literals
 a_run_on_both_directions = refl
 
 a_run_with_a_view : words_meant (codes "tep" ∷ codes "run" ∷ codes "-ss" ∷ codes "-uu" ∷ codes "-od" ∷ codes "--pcapng" ∷ codes "v" ∷ codes "p1" ∷ [])
-    ≡ Some (run (codes "s") None (codes "u") (Some (codes "d")) (codes "p1" ∷ []) false None [] false false None None false None false false (Some (codes "v")))
+    ≡ Some (run (codes "s") None (codes "u") (Some (codes "d")) (codes "p1" ∷ []) false None [] false false None None false None None false false (Some (codes "v")))
 unfolding clap_on_literals
 a_run_with_a_view = refl
 
 a_view_alone : words_meant (codes "tep" ∷ codes "run" ∷ codes "-ss" ∷ codes "-uu" ∷ codes "--pcapng=-" ∷ codes "p1" ∷ [])
-    ≡ Some (run (codes "s") None (codes "u") None (codes "p1" ∷ []) false None [] false false None None false None false false (Some (codes "-")))
+    ≡ Some (run (codes "s") None (codes "u") None (codes "p1" ∷ []) false None [] false false None None false None None false false (Some (codes "-")))
 unfolding clap_on_literals
 a_view_alone = refl
+
+a_list_alone : words_meant (codes "tep" ∷ codes "run" ∷ codes "-ss" ∷ codes "-uu" ∷ codes "--both" ∷ codes "--list" ∷ codes "l" ∷ codes "p1" ∷ [])
+    ≡ Some (run (codes "s") None (codes "u") None (codes "p1" ∷ []) false None [] false false None None true None (Some (codes "l")) false false None)
+unfolding clap_on_literals
+a_list_alone = refl
 
 a_run_that_neither_tells_nor_writes_has_no_meaning : words_meant (codes "tep" ∷ codes "run" ∷ codes "-ss" ∷ codes "-uu" ∷ codes "p1" ∷ []) ≡ None
 unfolding clap_on_literals
@@ -169,7 +174,7 @@ unfolding clap_on_literals
 settings_of_no_run_are_none = refl
 
 a_run_told_as_json : words_meant (codes "tep" ∷ codes "run" ∷ codes "-ss" ∷ codes "-uu" ∷ codes "-od" ∷ codes "--json" ∷ codes "p1" ∷ codes "--quiet" ∷ [])
-    ≡ Some (run (codes "s") None (codes "u") (Some (codes "d")) (codes "p1" ∷ []) false None [] false false None None false None true true None)
+    ≡ Some (run (codes "s") None (codes "u") (Some (codes "d")) (codes "p1" ∷ []) false None [] false false None None false None None true true None)
 unfolding clap_on_literals
 a_run_told_as_json = refl
 

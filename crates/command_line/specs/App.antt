@@ -55,6 +55,7 @@ rule_for arguments.Segments = option_rule (codes "segments")
 rule_for arguments.Digests = option_rule (codes "digests")
 rule_for arguments.Both = flag_rule (codes "both")
 rule_for arguments.Within = option_rule (codes "within")
+rule_for arguments.List = option_rule (codes "list")
 rule_for arguments.Parts = record (listed_rule (codes "parts")) { required = true }
 rule_for arguments.Depth = record (option_rule (codes "depth")) {
   short = Some 100;
@@ -101,8 +102,8 @@ name_of subcommands.Report = codes "report"
 abbrev pub run_with : Argument → List Argument
 run_with out =
     arguments.Settings ∷ arguments.Changes ∷ arguments.Underlay
-    ∷ out ∷ arguments.Ports ∷ arguments.Both ∷ arguments.Within ∷ arguments.Tables ∷ arguments.TablesAt
-    ∷ arguments.Why ∷ arguments.Summary ∷ arguments.Talkers ∷ arguments.RunJson ∷ arguments.Pcapng ∷ arguments.Segments
+    ∷ out ∷ arguments.Ports ∷ arguments.Both ∷ arguments.Within ∷ arguments.List ∷ arguments.Tables
+    ∷ arguments.TablesAt ∷ arguments.Why ∷ arguments.Summary ∷ arguments.Talkers ∷ arguments.RunJson ∷ arguments.Pcapng ∷ arguments.Segments
     ∷ arguments.Digests ∷ arguments.Quiet ∷ []
 
 -- what it takes

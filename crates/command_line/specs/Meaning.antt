@@ -20,7 +20,8 @@ use Rattle.command_line.specs.declared.line.LineFault.TheVariants as fault
 -- a command with its values: of `run` the settings, the changes, the underlay, the folder if there is one, the ports, whether
 -- the tables are told, the moment at which they are, the events that are told in full, whether the counts are told, the
 -- segments that a part takes, the file of the digests that are lent to it, whether what the switch itself sent is left out, how
--- long behind its frame that may come, whether all is told as JSON, too, whether no progress is shown, and the file of its view; of
+-- long behind its frame that may come, the file of the list of that, whether all is told as JSON, too, whether no progress is
+-- shown, and the file of its view; of
 -- `check` the settings, the changes, the underlay, the ports, and whether it is told as JSON; of `explain` the settings, the depth,
 -- whether values are told, the capture, and the same; of `migrate` the settings; of `digest` the underlay and the ports; of `merge` the folder, those
 -- of the parts, whether the tables are told, whether the counts are, and whether they are told as JSON; of `split` the folder and
@@ -32,7 +33,8 @@ use Rattle.command_line.specs.declared.line.LineFault.TheVariants as fault
 pub data Meaning : Type 0 where
   sample : Meaning
   run : Text → Option Text → Text → Option Text → List Text → Bool
-      → Option ℕ → List Text → Bool → Bool → Option Text → Option Text → Bool → Option Text → Bool → Bool → Option Text → Meaning
+      → Option ℕ → List Text → Bool → Bool → Option Text → Option Text → Bool → Option Text → Option Text → Bool → Bool → Option Text
+      → Meaning
   check : Text → Option Text → Option Text → List Text → Bool → Meaning
   explain : Text → ℕ → Bool → Text → Bool → Meaning
   migrate : Text → Meaning
@@ -47,10 +49,10 @@ pub data Meaning : Type 0 where
 -- what a command line is as such a meaning
 abbrev pub meaning_of : Line → Meaning
 meaning_of line.Sample = sample
-meaning_of (line.Run settings changes underlay out ports tables tables_at why summary talkers segments digests both within json quiet pcapng) =
+meaning_of (line.Run settings changes underlay out ports tables tables_at why summary talkers segments digests both within list json quiet pcapng) =
     run settings.now (option_map (λ t. t.now) changes) underlay.now (option_map (λ t. t.now) out) (texts ports.items) tables tables_at
     (texts why.items) summary talkers (option_map (λ t. t.now) segments) (option_map (λ t. t.now) digests)
-    both (option_map (λ t. t.now) within) json quiet (option_map (λ t. t.now) pcapng)
+    both (option_map (λ t. t.now) within) (option_map (λ t. t.now) list) json quiet (option_map (λ t. t.now) pcapng)
 meaning_of (line.Check settings changes underlay ports json) =
     check settings.now (option_map (λ t. t.now) changes) (option_map (λ t. t.now) underlay) (texts ports.items) json
 meaning_of (line.Explain settings depth values capture json) = explain settings.now depth values capture.now json
@@ -69,7 +71,7 @@ meaning_of (line.CompareWorked worked underlay ports within shift settings stric
 -- a depth is 1 to 4
 abbrev pub HasDepth : Line → Type 0
 HasDepth line.Sample = ⊤
-HasDepth (line.Run settings changes underlay out ports tables tables_at why summary talkers segments digests both within json quiet pcapng) = ⊤
+HasDepth (line.Run settings changes underlay out ports tables tables_at why summary talkers segments digests both within list json quiet pcapng) = ⊤
 HasDepth (line.Check settings changes underlay ports json) = ⊤
 HasDepth (line.Explain settings depth values capture json) = (1 ≤ depth) × (depth ≤ 4)
 HasDepth (line.Migrate settings) = ⊤
@@ -132,8 +134,8 @@ abbrev pub run_meant : List Row → Option Meaning
 run_meant rows = option_and_then (λ s. option_and_then (λ u.
     option_map (λ ps. run s (changes_in rows) u (first_of (codes "out") rows) ps (is_set (codes "tables") rows) (moment_in rows)
     (why_in rows) (is_set (codes "summary") rows) (is_set (codes "talkers") rows) (first_of (codes "segments") rows)
-    (first_of (codes "digests") rows) (is_set (codes "both") rows) (first_of (codes "within") rows) (is_set (codes "json") rows)
-    (is_set (codes "quiet") rows) (first_of (codes "pcapng") rows)) (all_of (codes "ports") rows)) (first_of (codes "underlay") rows)) (settings_in rows)
+    (first_of (codes "digests") rows) (is_set (codes "both") rows) (first_of (codes "within") rows) (first_of (codes "list") rows)
+    (is_set (codes "json") rows) (is_set (codes "quiet") rows) (first_of (codes "pcapng") rows)) (all_of (codes "ports") rows)) (first_of (codes "underlay") rows)) (settings_in rows)
 
 -- what `check` is asked to do
 abbrev pub check_meant : List Row → Option Meaning
@@ -248,18 +250,23 @@ has_any (t ∷ ts) = true
 
 -- something is printed of a run besides its outputs
 abbrev pub is_printing : Meaning → Bool
-is_printing (run settings changes underlay out ports tables tables_at why summary talkers segments digests both within json quiet pcapng) =
+is_printing (run settings changes underlay out ports tables tables_at why summary talkers segments digests both within list json quiet pcapng) =
     tables || (is_some tables_at || (has_any why || (summary || talkers)))
 is_printing _ = false
 
 -- the file of the view of a run, where there is one
 abbrev pub view_of : Meaning → Option Text
-view_of (run settings changes underlay out ports tables tables_at why summary talkers segments digests both within json quiet pcapng) = pcapng
+view_of (run settings changes underlay out ports tables tables_at why summary talkers segments digests both within list json quiet pcapng) = pcapng
 view_of _ = None
+
+-- the file of the list of what it leaves out, where there is one
+abbrev pub list_of : Meaning → Option Text
+list_of (run settings changes underlay out ports tables tables_at why summary talkers segments digests both within list json quiet pcapng) = list
+list_of _ = None
 
 -- something is told of a run besides its outputs
 abbrev pub is_telling : Meaning → Bool
-is_telling meaning = is_printing meaning || is_some (view_of meaning)
+is_telling meaning = is_printing meaning || (is_some (view_of meaning) || is_some (list_of meaning))
 
 -- the same, where it is so
 abbrev pub telling : Meaning → Option Meaning
@@ -286,7 +293,7 @@ inputs_among names = count_by (λ name. bytes_eq (file_of name) (codes "-")) nam
 -- how many captures are standard input; texts are files, whatever their names, and beside what a run wrote '-' is no capture
 abbrev pub input_uses : Meaning → ℕ
 input_uses sample = 0
-input_uses (run settings changes underlay out ports tables tables_at why summary talkers segments digests both within json quiet pcapng) =
+input_uses (run settings changes underlay out ports tables tables_at why summary talkers segments digests both within list json quiet pcapng) =
     inputs_among (underlay ∷ ports)
 input_uses (check settings changes None ports json) = inputs_among ports
 input_uses (check settings changes (Some underlay) ports json) = inputs_among (underlay ∷ ports)
@@ -307,7 +314,7 @@ ReadsInputOnce meaning = input_uses meaning ≤ 1
 
 -- digests are lent to a run that is no part
 abbrev pub lends_to_a_whole : Meaning → Bool
-lends_to_a_whole (run settings changes underlay out ports tables tables_at why summary talkers segments digests both within json quiet pcapng) =
+lends_to_a_whole (run settings changes underlay out ports tables tables_at why summary talkers segments digests both within list json quiet pcapng) =
     is_some digests && not (is_some segments)
 lends_to_a_whole _ = false
 
@@ -322,9 +329,11 @@ abbrev pub is_output : Option Text → Bool
 is_output None = false
 is_output (Some name) = bytes_eq name (codes "-")
 
--- the view of a run goes to standard output, and something else is printed there
+-- of the view of a run, its list, and what is printed two go to standard output
 abbrev pub mixes_output : Meaning → Bool
-mixes_output meaning = is_printing meaning && is_output (view_of meaning)
+mixes_output meaning =
+    let view = is_output (view_of meaning) in let list = is_output (list_of meaning) in
+    (is_printing meaning && (view || list)) || (view && list)
 
 -- nothing is mixed there
 abbrev pub KeepsOutputApart : Meaning → Type 0
@@ -358,7 +367,7 @@ RefusesAsWhole words e = (kind_of e ≡ OutOfMemory) ⊎ ((takes tep_app words �
 -- its matches have one, but are of `compare` with captures as it doesn't take them, NoFolder with captures that were worked out by
 -- no run but settings, or strictly, and Ignored with something to leave aside that it doesn't know; InputTwice where it takes them
 -- and they ask for standard input more than once, NoSegments where it takes them and they lend digests to a run that is no part,
--- OutputTwice where it takes them and they print something beside a view on standard output, NoCapture where it takes them and they
+-- OutputTwice where it takes them and two things go to standard output, NoCapture where it takes them and they
 -- compare what a run wrote with no capture
 abbrev pub Explains : List Text → LineFault → Type 0
 Explains words fault.OutOfMemory = ⊤

@@ -60,6 +60,8 @@ pub enum Argument {
     Both,
     /// How long behind its frame that may come.
     Within,
+    /// The file of the list of what is left out.
+    List,
     /// The folders of the parts: one or more.
     Parts,
     /// How many tunnels are looked into: 1 to 4.
@@ -219,6 +221,12 @@ impl Argument {
                 "within",
                 "TIME",
                 "How long behind its frame that may come, with --both: 500us, 2ms, 1s; 10ms without it",
+            ),
+            Argument::List => option(
+                alloc,
+                "list",
+                FILE,
+                "Writes each record that --both leaves out, and which one it is the echo of; '-' is standard output",
             ),
             Argument::Parts => listed(
                 alloc,

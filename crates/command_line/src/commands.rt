@@ -149,6 +149,7 @@ macro_rules! run_with {
             Argument::Ports,
             Argument::Both,
             Argument::Within,
+            Argument::List,
             Argument::Tables,
             Argument::TablesAt,
             Argument::Why,
@@ -164,10 +165,10 @@ macro_rules! run_with {
 }
 
 /// What `run` takes.
-const RUN: [Argument; 17] = run_with!(Argument::RunOut);
+const RUN: [Argument; 18] = run_with!(Argument::RunOut);
 
 /// What `run` takes where its folder may be left out.
-const TELLING_RUN: [Argument; 17] = run_with!(Argument::OptionalOut);
+const TELLING_RUN: [Argument; 18] = run_with!(Argument::OptionalOut);
 
 /// What `check` takes.
 const CHECK: [Argument; 5] = [

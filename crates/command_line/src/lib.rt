@@ -8,7 +8,7 @@
 //! Proved: where `line_of` answers a line, its command and values are those that `clap`'s own definition of simple commands
 //! gives for the words, or where it doesn't take them, those that it gives of a run which may leave its folder out and of which
 //! something is told. Each fault but OutOfMemory comes only where that definition says so of the words. A line has no empty
-//! name, at most one capture that is standard input, nothing that is printed beside a view on standard output, digests for a part
+//! name, at most one capture that is standard input, one thing at most that goes to standard output, digests for a part
 //! alone, something to compare, and a depth of 1 to 4. A capture's name is parted at its last `#`. A text is a time exactly where it
 //! is a number without leading zeros, below 2^64, and one of four units, of less than 2^64 nanoseconds.
 //!
@@ -17,7 +17,7 @@
 //!   and they mean no line, since a required value is missing or `compare` has captures as it doesn't take them;
 //!   NoFolder and Ignored only where they mean none either; InputTwice only where it takes them and more than one
 //!   capture's file is standard input, NoSegments only where it takes them and they lend digests to a run that is no
-//!   part, OutputTwice only where it takes them and something is printed beside a view on standard output, NoCapture only
+//!   part, OutputTwice only where it takes them and two things go to standard output, NoCapture only
 //!   where it takes them and they compare what a run wrote with no capture: `line_of`.
 //! - The file and the interface of a capture's name are what stands before and behind its last `#`, the whole name
 //!   where there is none, and no interface where nothing stands behind it: `capture_name`.

@@ -4,8 +4,8 @@ ghost use Rattle.clap.specs.Walk.{texts};
 ghost use Rattle.std.specs.Str.{bytes_eq};
 ghost use Rattle.command_line.specs.Meaning.{AreTaken, ComparesSomething, Explains, HasDepth, LendsToParts, ReadsInputOnce};
 ghost use Rattle.command_line.specs.Meaning.{KeepsOutputApart, are_no_captures, compares_nothing, input_uses, inputs_among};
-ghost use Rattle.command_line.specs.Meaning.{is_output, is_printing, lends_to_a_whole, meaning_of, mixes_output, view_of};
-ghost use Rattle.command_line.specs.Meaning.{words_meant};
+ghost use Rattle.command_line.specs.Meaning.{is_output, is_printing, lends_to_a_whole, list_of, meaning_of, mixes_output};
+ghost use Rattle.command_line.specs.Meaning.{view_of, words_meant};
 
 use crate::capture::{NO_CAPTURE, STANDARD_INPUT, STANDARD_OUTPUT, capture_name};
 use crate::words::line_in;
@@ -48,6 +48,8 @@ pub enum Line<'a> {
         both: bool,
         /// How long behind its frame that may come, as it was given.
         within: Option<&'a str>,
+        /// The file of the list of what is left out, where there is one. [`STANDARD_OUTPUT`] is one.
+        list: Option<&'a str>,
         /// Whether all is told as JSON, too.
         json: bool,
         /// Whether no progress is shown.
@@ -193,8 +195,8 @@ pub enum LineFault {
     /// Digests are lent to a run that is no part.
     #[error("error: --digests lends digests to a part of a run, and there is no --segments")]
     NoSegments,
-    /// A view goes to standard output, and something else is printed there.
-    #[error("error: standard output can be one thing only: --pcapng - or what --why, --tables, --tables-at, --summary and --talkers print")]
+    /// Of a view, a list and what is printed two go to standard output.
+    #[error("error: standard output can be one thing only: --pcapng -, --list - or what --why, --tables, --tables-at, --summary and --talkers print")]
     OutputTwice,
     /// What a run wrote is compared with no capture.
     #[error("error: each capture is '-', so nothing is compared")]
@@ -301,11 +303,23 @@ pub(crate) fn view_of<'a>(line: &Line<'a>) -> Option<&'a str>
     }
 }
 
-/// Whether the view of a run goes to standard output, and something else is printed there.
+/// The file of the list of what a run leaves out, where there is one.
+pub(crate) fn list_of<'a>(line: &Line<'a>) -> Option<&'a str>
+    ensures { option_map (λ t. t.now) result ≡ list_of (meaning_of line.now) }
+{
+    match line {
+        Line::Run { list, .. } => *list,
+        _ => None,
+    }
+}
+
+/// Whether of the view of a run, its list and what is printed two go to standard output.
 fn mixes_output(line: &Line<'_>) -> bool
     ensures { result ≡ mixes_output (meaning_of line.now) }
 {
-    is_printing(line) && is_output(view_of(line))
+    let view = is_output(view_of(line));
+    let list = is_output(list_of(line));
+    is_printing(line) && (view || list) || view && list
 }
 
 /// Whether a file is standard output.

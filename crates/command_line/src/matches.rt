@@ -129,6 +129,7 @@ fn run_from<'a>(alloc: Global, inner: &ArgMatches<'a>) -> Result<Line<'a>, LineF
         digests: text(inner, "digests"),
         both: is_set(inner, "both"),
         within: text(inner, "within"),
+        list: text(inner, "list"),
         json: is_set(inner, "json"),
         quiet: is_set(inner, "quiet"),
         pcapng: text(inner, "pcapng"),

@@ -8,7 +8,7 @@ ghost use Rattle.command_line.specs.Meaning.{AreTaken, ExplainsWords, HasDepth, 
 ghost use Rattle.command_line.specs.Meaning.{line_meant, meaning_of, telling, telling_meant, words_meant};
 
 use crate::commands;
-use crate::line::{Line, LineFault, is_printing, view_of};
+use crate::line::{Line, LineFault, is_printing, list_of, view_of};
 use crate::matches::line_from;
 use clap::error::ErrorKind;
 use clap::{ArgMatches, Error};
@@ -92,5 +92,5 @@ fn telling_line_from<'a>(
 fn is_telling(line: &Line<'_>) -> bool
     ensures { result ≡ is_telling (meaning_of line.now) }
 {
-    is_printing(line) || view_of(line).is_some()
+    is_printing(line) || (view_of(line).is_some() || list_of(line).is_some())
 }

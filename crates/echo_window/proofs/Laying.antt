@@ -59,9 +59,9 @@ lengths-within (j ∷ ks) (suc i) = omega (arith, lengths-within ks i)
 
 -- one of them, met again at a place
 pub laid-met : (ks : List Kept) (row : List ℕ) (i : ℕ) (k more : Kept) (m : Record) → i < length ks → k ≡ get_or ks i k
-    → more.place ≡ k.place → more.moment ≡ k.moment → more.length ≡ k.length → more.awaited ≡ set k.awaited m.place false
+    → more.place ≡ k.place → more.number ≡ k.number → more.moment ≡ k.moment → more.length ≡ k.length → more.awaited ≡ set k.awaited m.place false
     → laid (set ks i more) row ≡ met_again m (laid ks row) i
-laid-met ks row i k more m h here p t l e =
+laid-met ks row i k more m h here p n t l e =
     let at = laid-at ks row i k (first_met m) h in
     let put = laid-set ks row i more k (first_met m) h (l ∙ ap (λ (x : Kept). x.length) here) in
     let own : came_of more (get_or (laid ks row) i (first_met m)).frame ≡ met_at m.place (get_or (laid ks row) i (first_met m)) = rw (at, ← here) cc in

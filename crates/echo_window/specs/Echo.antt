@@ -4,7 +4,7 @@
 --     recent       the frames that an echo may be of at a moment
 --     newest       what is kept of the frames that came in
 --     crowded_out  what is forgotten of them for want of room
---     echo_of      where the frame came in that a record is an echo of
+--     echo_of      which record brought the frame that a record is an echo of
 --     after        the frames that came in, once a record was met
 --     entered      the same, once one came in
 --     behind_met, behind_entered   what a window knows then
@@ -12,19 +12,22 @@ use Rattle.std.specs.Prelude.{ℕ, ◌+◌, ◌-◌, ◌^◌, min, nat_eq, nat_l
 use Rattle.std.specs.Prelude.{◌∷◌, ◌++◌, get_or, length, Option, Some, None, option_map, set, slice_index_or}
 use Rattle.std.specs.List.{find, flat_map, list_all, position}
 use Rattle.echo_window.specs.declared.forgotten.Forgotten.{Forgotten}
+use Rattle.echo_window.specs.declared.origin.Origin.{Origin}
 use Rattle.wire.specs.Octets.{is_same}
 
--- a record of a capture: the place where it was captured, its moment in nanoseconds, the octets of its frame without tag, and by
--- the numbers of 256 places whether it may be met again there, if it came in
+-- a record of a capture: the place where it was captured, its number there, its moment in nanoseconds, the octets of its frame
+-- without tag, and by the numbers of 256 places whether it may be met again there, if it came in
 pub record Record : Type 0 where
   pub place : ℕ
+  pub number : ℕ
   pub moment : ℕ
   pub frame : List ℕ
   pub awaited : List Bool
 
--- a frame that came in; and by the numbers of 256 places whether it may still be met again there
+-- a frame that came in, by which record; and by the numbers of 256 places whether it may still be met again there
 pub record Arrival : Type 0 where
   pub place : ℕ
+  pub number : ℕ
   pub moment : ℕ
   pub frame : List ℕ
   pub awaited : List Bool
@@ -78,19 +81,23 @@ crowded_out moment (c ∷ came) = if fits (c ∷ came) then [] else age_at momen
 
 -- a frame that came in, met nowhere else yet
 abbrev pub first_met : Record → Arrival
-first_met r = record { place = r.place; moment = r.moment; frame = r.frame; awaited = r.awaited }
+first_met r = record { place = r.place; number = r.number; moment = r.moment; frame = r.frame; awaited = r.awaited }
 
 -- a frame, met again at a place
 abbrev pub met_at : ℕ → Arrival → Arrival
-met_at place c = record { place = c.place; moment = c.moment; frame = c.frame; awaited = set c.awaited place false }
+met_at place c = record { place = c.place; number = c.number; moment = c.moment; frame = c.frame; awaited = set c.awaited place false }
 
 -- frames, of which the one at an index was met again at the place of a record
 abbrev pub met_again : Record → List Arrival → ℕ → List Arrival
 met_again r came i = set came i (met_at r.place (slice_index_or came i (first_met r)))
 
--- where the frame came in that a record is an echo of, the earliest of several; None: the record is no echo
-abbrev pub echo_of : ℕ → List Arrival → Record → Option ℕ
-echo_of within came r = option_map (λ c. c.place) (find (is_echo_of within r) came)
+-- which record brought a frame
+abbrev pub origin_of : Arrival → Origin
+origin_of c = record { place = c.place; number = c.number; moment = c.moment }
+
+-- which record brought the frame that another is an echo of, the earliest of several; None: it is no echo
+abbrev pub echo_of : ℕ → List Arrival → Record → Option Origin
+echo_of within came r = option_map origin_of (find (is_echo_of within r) came)
 
 -- what is kept of recent frames once a record was met: an echo's place with its frame
 abbrev pub with_met : ℕ → List Arrival → Record → List Arrival

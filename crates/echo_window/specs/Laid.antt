@@ -6,11 +6,11 @@ use Rattle.echo_window.specs.declared.record.Record.{Record as Told}
 
 -- what a record tells
 abbrev pub told : Told → Record
-told r = record { place = r.place; moment = r.moment; frame = r.frame.now; awaited = r.awaited.now }
+told r = record { place = r.place; number = r.number; moment = r.moment; frame = r.frame.now; awaited = r.awaited.now }
 
 -- a frame with its octets
 abbrev pub came_of : Kept → List ℕ → Arrival
-came_of k frame = record { place = k.place; moment = k.moment; frame = frame; awaited = k.awaited }
+came_of k frame = record { place = k.place; number = k.number; moment = k.moment; frame = frame; awaited = k.awaited }
 
 -- how many octets frames have together
 abbrev pub lengths : List Kept → ℕ

@@ -11,6 +11,8 @@ use crate::record::Record;
 pub(crate) struct Kept {
     /// Where it came in.
     pub(crate) place: u8,
+    /// The number of its record there.
+    pub(crate) number: u64,
     /// Nanoseconds.
     pub(crate) moment: u64,
     /// How many octets came before its own.

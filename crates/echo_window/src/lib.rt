@@ -2,8 +2,8 @@
 //! came in, and where each was met again.
 //!
 //! Use first: a [`Window`] is told of one [`Record`] after another, of all places in order of moment, and says of each
-//! whether it is an echo of a frame that came in: met at another place where that is awaited, soon after, for the first time
-//! there, octet for octet. A frame that came in enters ([`Window::enter`]), with the places where it may be met again.
+//! which frame that came in it is an echo of, by its [`Origin`]: met at another place where that is awaited, soon after, for
+//! the first time there, octet for octet. A frame that came in enters ([`Window::enter`]), with the places where it may be met again.
 //! [`Window::forgotten`] tells what had to go too early. Captures aren't read here.
 //!
 //! Specs to read: `specs/Echo`. `specs/Laid`, `specs/Bucket`, `specs/Index` and `specs/Places` serve proofs.
@@ -14,8 +14,8 @@
 //! Only [`Window::new`] takes memory, some 8.4 MiB.
 //!
 //! Proved besides:
-//! - Whether a record of a capture is an echo of a frame that came in elsewhere at most so long before, and of the
-//!   earliest of several: `Window::meet`. What is kept are the frames that came in at most so long before the record,
+//! - Which frame that came in elsewhere at most so long before a record of a capture is an echo of, the earliest of
+//!   several, if it is one: `Window::meet`. What is kept are the frames that came in at most so long before the record,
 //!   of these the latest, 4,096 and 4 MiB at most.
 //! - A frame that came in is kept, by the same bounds: `Window::enter`.
 //! - How many frames went for want of room although an echo of them might still have come, up to 2^64 - 1, and the least
@@ -36,6 +36,7 @@ mod forgotten;
 mod frame_text;
 mod index;
 mod kept;
+mod origin;
 mod place_set;
 mod record;
 mod search;
@@ -43,6 +44,7 @@ mod window;
 
 pub use forgotten::Forgotten;
 pub use frame_text::FrameText;
+pub use origin::Origin;
 pub use place_set::PlaceSet;
 pub use record::Record;
 pub use window::Window;

@@ -46,7 +46,7 @@ impl PlaceSet {
 
     /// Whether a place is in it.
     #[inline(always)]
-    pub(crate) fn has(&self, place: u8) -> bool
+    pub fn has(&self, place: u8) -> bool
         ensures { result ≡ get_or self.now place false }
     {
         (self.words[word_of(place)] >> bit_of(place)) & 1 == 1

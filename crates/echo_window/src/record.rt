@@ -8,6 +8,8 @@ use crate::place_set::PlaceSet;
 pub struct Record<'a> {
     /// Where it was captured: 0 for the underlay, and the number of a local port.
     pub place: u8,
+    /// Its number in its capture, if it came in.
+    pub number: u64,
     /// Nanoseconds.
     pub moment: u64,
     /// The frame's octets without its VLAN tag.

@@ -3,13 +3,14 @@ ghost use Rattle.std.specs.Prelude.{◌≡◌, ◌≤◌, ◌<◌, ◌+◌, ◌-
 ghost use Rattle.std.specs.Prelude.{slice_index_or, true};
 ghost use Rattle.std.specs.List.{position};
 ghost use Rattle.echo_window.specs.Echo.{Record as ARecord, age_at, behind_entered, behind_met, crowded_by, echo_of, first_met, fits};
-ghost use Rattle.echo_window.specs.Echo.{is_echo_of, is_met_everywhere, met_again, new_window, newest, recent, with_ages, with_met};
+ghost use Rattle.echo_window.specs.Echo.{is_echo_of, is_met_everywhere, met_again, new_window, newest, origin_of, recent, with_ages, with_met};
 ghost use Rattle.echo_window.specs.Bucket.{bucket_of};
 ghost use Rattle.echo_window.specs.Laid.{begins_past, told};
 
 use crate::forgotten::Forgotten;
 use crate::index::Index;
 use crate::kept::Kept;
+use crate::origin::Origin;
 use crate::record::Record;
 use crate::search::{find, find_linked, is_alike};
 use octet_row::Row;
@@ -68,9 +69,9 @@ impl Window {
         })
     }
 
-    /// Meets the next record, and forgets what came in too early for an echo at its moment. Where it is an echo: the place where
-    /// its frame came in.
-    pub fn meet(&mut self, met: &Record) -> Option<u8>
+    /// Meets the next record, and forgets what came in too early for an echo at its moment. Where it is an echo: the record that
+    /// brought its frame.
+    pub fn meet(&mut self, met: &Record) -> Option<Origin>
         ensures answer { result ≡ echo_of self.old.within self.old.came (told met.now) }
         ensures behind { self.new ≡ behind_met self.old (told met.now) }
     {
@@ -100,9 +101,9 @@ impl Window {
         self.forgotten
     }
 
-    /// Meets the next record, where all frames that it may be an echo of are recent. Where it is an echo: the place where its
-    /// frame came in.
-    fn meet_recent(&mut self, met: &Record) -> Option<u8>
+    /// Meets the next record, where all frames that it may be an echo of are recent. Where it is an echo: the record that brought
+    /// its frame.
+    fn meet_recent(&mut self, met: &Record) -> Option<Origin>
         ensures answer { result ≡ echo_of self.old.within self.old.came (told met.now) }
         ensures behind { self.new ≡ record self.old { came = with_met self.old.within self.old.came (told met.now) } }
     {
@@ -148,15 +149,19 @@ impl Window {
         find(&self.frames, &self.row, self.within, met)
     }
 
-    /// Notes that a frame was met again at the place of a record. Where it came in is told.
-    fn mark(&mut self, i: usize, met: &Record) -> u8
+    /// Notes that a frame was met again at the place of a record. Which record brought it is told.
+    fn mark(&mut self, i: usize, met: &Record) -> Origin
         requires there { i < length self.old.came }
-        ensures place { result ≡ (slice_index_or self.old.came i (first_met (told met.now))).place }
+        ensures origin { result ≡ origin_of (slice_index_or self.old.came i (first_met (told met.now))) }
         ensures came { self.new ≡ record self.old { came = met_again (told met.now) self.old.came i } }
     {
         let kept = &mut self.frames[i];
         kept.awaited.remove(met.place);
-        kept.place
+        Origin {
+            place: kept.place,
+            number: kept.number,
+            moment: kept.moment,
+        }
     }
 
     /// Keeps the frame of a record, which has this bucket, as the latest, and as many of the others as fit. The rest are counted,
@@ -256,6 +261,7 @@ impl Window {
     {
         let kept = Kept {
             place: met.place,
+            number: met.number,
             moment: met.moment,
             at: self.index.octets_before(self.row.count()),
             length: met.frame.octet_count(),

@@ -59,6 +59,7 @@ fn opening_of<R: Files + AllocGlobal>(
             changes,
             underlay,
             ports,
+            list,
             json,
             pcapng,
             ..
@@ -67,6 +68,7 @@ fn opening_of<R: Files + AllocGlobal>(
             let aside = texts
                 .saturating_add(count_handed_on(ports.as_slice()))
                 .saturating_add(usize::from(*json))
+                .saturating_add(usize::from(list.is_some()))
                 .saturating_add(usize::from(pcapng.is_some()));
             Ok(Some(opening_of_run(ports.len(), aside)))
         }

@@ -30,5 +30,6 @@ mod sought;
 mod wanted;
 
 pub use onlooker::Onlooker;
-pub use reading::is_event_name;
+pub use passing::foreseen;
+pub use reading::{Name, is_event_name, name_in};
 pub use reports::Reports;

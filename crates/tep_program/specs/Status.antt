@@ -16,7 +16,7 @@ first_no_event names = find (λ name. not (is_event_name name)) names
 
 -- that of the names whose stories are asked for
 abbrev pub no_event_in : Meaning → Option Text
-no_event_in (run settings changes underlay out ports tables tables_at why summary talkers segments digests both within json quiet pcapng) =
+no_event_in (run settings changes underlay out ports tables tables_at why summary talkers segments digests both within list json quiet pcapng) =
     first_no_event why
 no_event_in _ = None
 
@@ -29,8 +29,8 @@ abbrev pub NamesTables : Meaning → Type 0
 NamesTables meaning = no_table_in meaning ≡ None
 
 -- words that `clap` doesn't take, also not as a run of which something is told, among them those that ask for help, that lack a
--- value, that ask for standard input more than once, that lend digests to a run that is no part, that print something beside a view on
--- standard output, that compare what a run wrote with no capture, that name an event as none can be named, or a table that there is
+-- value, that ask for standard input more than once, that lend digests to a run that is no part, that put two things on standard
+-- output, that compare what a run wrote with no capture, that name an event as none can be named, or a table that there is
 -- none of
 abbrev pub AreRefused : List Text → Type 0
 AreRefused words =
@@ -42,7 +42,7 @@ AreRefused words =
     ⊎ (IsSomeAnd (words_meant words) (λ meaning. is_some (no_event_in meaning) ≡ true)
     ⊎ IsSomeAnd (words_meant words) (λ meaning. is_some (no_table_in meaning) ≡ true)))))
 
--- words that are taken, ask for standard input once at most, lend digests to parts alone, print nothing beside a view on standard
+-- words that are taken, ask for standard input once at most, lend digests to parts alone, put one thing at most on standard
 -- output, compare something where they compare, and name events as they can be named and tables that there are
 abbrev pub AreTaken : List Text → Type 0
 AreTaken words = AreTakenByClap words × IsSomeAnd (words_meant words) (λ meaning. ReadsInputOnce meaning × LendsToParts meaning

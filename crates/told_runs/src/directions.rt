@@ -1,11 +1,13 @@
 //! Captures that have both directions: what the switch itself sent is left out of them.
 ghost use Rattle.std.specs.Prelude.{◌≡◌, IfOk, is_some};
 
-use both_ways::{BothWays, WITHIN};
+use crate::audit::RunAudit;
+use both_ways::{Audited, BothWays, Placed, WITHIN};
 use command_line::time_of;
 use program_files::Failure;
 use run_counts::{Flows, RunCounts};
 use std::alloc::{AllocError, Global};
+use std::rt::Files;
 use stream_run::TakesAll;
 use text_calls::tap_of;
 use timeline::Tap;
@@ -40,6 +42,16 @@ pub fn sieve_for(alloc: Global, within: Option<u64>) -> Result<Option<BothWays>,
 pub trait LeavesOut {
     /// How many records of this capture.
     fn left_out_at(&self, tap: Tap) -> u64;
+
+    /// Whether it is known to have left out the record that the name at this place asks for.
+    fn is_named(&self, _name: usize) -> bool {
+        false
+    }
+
+    /// What is told of those that are asked for by name. `AllocError`: memory was refused meanwhile.
+    fn told(&self) -> Result<&[u8], AllocError> {
+        Ok(&[])
+    }
 }
 
 impl LeavesOut for TakesAll {
@@ -54,6 +66,20 @@ impl LeavesOut for BothWays {
     }
 }
 
+impl<R: Files + AllocGlobal + Print> LeavesOut for Audited<RunAudit<'_, R>> {
+    fn left_out_at(&self, tap: Tap) -> u64 {
+        self.both.left_out(tap)
+    }
+
+    fn is_named(&self, name: usize) -> bool {
+        self.audit.is_named(name)
+    }
+
+    fn told(&self) -> Result<&[u8], AllocError> {
+        self.audit.told()
+    }
+}
+
 /// How many records the captures at these taps have: those that came, and those that were left out.
 pub fn records_at<L: LeavesOut>(counts: &RunCounts, sieve: &L, taps: &[Tap]) -> Flows {
     let mut records = Flows::none();
@@ -65,11 +91,14 @@ pub fn records_at<L: LeavesOut>(counts: &RunCounts, sieve: &L, taps: &[Tap]) -> 
     records
 }
 
-/// Tells of the captures of so many ports and of the underlay how many records were left out, and below that what was forgotten
-/// for want of room.
-pub fn tell_left_out(rt: &impl Eprint, sieve: &BothWays, ports: usize) {
+/// Tells of the captures of so many ports and of the underlay how many records were left out, of these how many where the run sent
+/// nothing, if it is known where it did, and below that what was forgotten for want of room.
+pub fn tell_left_out(rt: &impl Eprint, sieve: &BothWays, placed: Option<&Placed>, ports: usize) {
     for index in 0..ports {
         tell_left_out_at(rt, sieve, tap_of(index));
+        if let Some(placed) = placed {
+            tell_unplaced_at(rt, placed, tap_of(index));
+        }
     }
     tell_left_out_at(rt, sieve, Tap::Underlay);
     if let Some(line) = sieve.forgotten_line() {
@@ -87,5 +116,13 @@ fn tell_left_out_at(rt: &impl Eprint, sieve: &BothWays, tap: Tap) {
         count => {
             let _ = eprintln!(rt; "  {tap}: left out {count} records that the switch sent");
         }
+    }
+}
+
+/// Tells how many of them are echoes where the run sent nothing, if any.
+fn tell_unplaced_at(rt: &impl Eprint, placed: &Placed, tap: Tap) {
+    let count = placed.unplaced(tap);
+    if count > 0 {
+        let _ = eprintln!(rt; "  {tap}: {count} of them where the run sent nothing");
     }
 }

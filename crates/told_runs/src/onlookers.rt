@@ -4,7 +4,7 @@ ghost use Rattle.std.specs.Prelude.{⊤};
 use crate::directions::LeavesOut;
 use crate::objects_file::{RunObjects, finish_objects, leave_objects, objects_of_run};
 use crate::run::{Asked, AskedJob};
-use crate::view_file::{AskedView, RunView, finish_view, leave_view, view_of_run};
+use crate::view_file::{RunView, finish_view, leave_view, view_of_run};
 use endpoint_core::{ChangeFault, Endpoint, Forwarding};
 use filter_db::Place;
 use overlay_config::TimedChange;
@@ -24,8 +24,7 @@ use tunnel_traffic::TunnelTraffic;
 /// Who looks on for what is printed behind a run.
 #[derive(Drop)]
 pub(crate) struct LookedOn<'n, 'a> {
-    /// None: nothing is printed.
-    pub(crate) onlooker: Option<Onlooker<'n, 'a>>,
+    pub(crate) onlooker: Onlooker<'n, 'a>,
     pub(crate) tunnels: Option<TunnelTraffic>,
     pub(crate) talkers: Option<Talkers>,
 }
@@ -41,8 +40,8 @@ pub(crate) struct Aside<'r, 'n, 'a, R: Files + AllocGlobal + Print> {
 /// shown all, one behind another.
 #[derive(Drop)]
 pub(crate) struct Onlookers<'r, 'n, 'a, R: Files + AllocGlobal + Print> {
-    looked: LookedOn<'n, 'a>,
-    aside: Aside<'r, 'n, 'a, R>,
+    looked: Option<LookedOn<'n, 'a>>,
+    aside: Option<Aside<'r, 'n, 'a, R>>,
     progress: Option<Progress<'r, R>>,
 }
 
@@ -61,40 +60,55 @@ pub(crate) fn onlookers_of<'r, 'n, 'a, R: Files + AllocGlobal + Print>(
     progress: Option<Progress<'r, R>>,
 ) -> Result<Onlookers<'r, 'n, 'a, R>, Failure<'static>> {
     let looked = looked_on(rt.alloc(), job, changes)?;
-    let objects = objects_of_run(rt, job.folder, job.asked.json, changes)?;
-    match view_of_run(rt, view_asked(job), changes) {
-        Ok(view) => Ok(Onlookers {
+    match aside_of(rt, job, changes) {
+        Ok(aside) => Ok(Onlookers {
             looked,
-            aside: Aside { objects, view },
+            aside,
             progress,
         }),
         Err(failure) => Err(failure),
     }
 }
 
-/// Who looks on for what is printed behind a run with these changes.
+/// Who writes objects and a view of a run with these changes, where either is asked for.
+fn aside_of<'r, 'n, 'a, R: Files + AllocGlobal + Print>(
+    rt: &'r R,
+    job: AskedJob<'n, 'n, 'a>,
+    changes: &'n [TimedChange],
+) -> Result<Option<Aside<'r, 'n, 'a, R>>, Failure<'static>> {
+    if job.asked.writes_nothing_more() {
+        return Ok(None);
+    }
+    let objects = objects_of_run(rt, job.folder, job.asked.json, changes)?;
+    match view_of_run(rt, job, changes) {
+        Ok(view) => Ok(Some(Aside { objects, view })),
+        Err(failure) => Err(failure),
+    }
+}
+
+/// Who looks on for what is printed behind a run with these changes, where anything is.
 fn looked_on<'n, 'a>(
     alloc: Global,
     job: AskedJob<'n, 'n, 'a>,
     changes: &'n [TimedChange],
-) -> Result<LookedOn<'n, 'a>, AllocError> {
-    Ok(LookedOn {
+) -> Result<Option<LookedOn<'n, 'a>>, AllocError> {
+    if job.asked.is_nothing() {
+        return Ok(None);
+    }
+    Ok(Some(LookedOn {
         onlooker: onlooker_of(alloc, job.asked, changes, job.segments)?,
         tunnels: tunnels_of(alloc, job.asked)?,
         talkers: talkers_of(alloc, job.asked)?,
-    })
+    }))
 }
 
-/// Who tells stories and tables of a run with these changes, of these segments, and counts, where anything is printed.
+/// Who tells stories and tables of a run with these changes, of these segments, and counts.
 fn onlooker_of<'n, 'a>(
     alloc: Global,
     asked: Asked<'n, 'a>,
     changes: &'n [TimedChange],
     segments: &'n SegmentSet,
-) -> Result<Option<Onlooker<'n, 'a>>, AllocError> {
-    if asked.is_nothing() {
-        return Ok(None);
-    }
+) -> Result<Onlooker<'n, 'a>, AllocError> {
     let reports = Reports::new(
         alloc,
         asked.why,
@@ -108,7 +122,7 @@ fn onlooker_of<'n, 'a>(
     } else {
         None
     };
-    Ok(Some(Onlooker { reports, counts }))
+    Ok(Onlooker { reports, counts })
 }
 
 /// Whoever counts what passes by tunnels, where a run is asked for its summary.
@@ -131,22 +145,9 @@ fn talkers_of(alloc: Global, asked: Asked<'_, '_>) -> Result<Option<Talkers>, Al
     }
 }
 
-/// The view that is asked for, if one is.
-fn view_asked<'n, 'a>(job: AskedJob<'n, 'n, 'a>) -> Option<AskedView<'n, 'a>> {
-    match job.asked.pcapng {
-        Some(name) => Some(AskedView {
-            name,
-            names: job.names,
-            folder: job.folder,
-            prints: !job.asked.is_nothing(),
-        }),
-        None => None,
-    }
-}
-
 impl<'r, 'n, 'a, R: Files + AllocGlobal + Print + Clock + Eprint> Onlookers<'r, 'n, 'a, R> {
-    /// The run ended, or stopped at a fault: the line of its progress goes, and each is for itself.
-    pub(crate) fn apart(self) -> (LookedOn<'n, 'a>, Aside<'r, 'n, 'a, R>) {
+    /// The run ended, or stopped at a fault: the line of its progress goes, and the others are for themselves.
+    pub(crate) fn apart(self) -> (Option<LookedOn<'n, 'a>>, Option<Aside<'r, 'n, 'a, R>>) {
         let Onlookers {
             looked,
             aside,
@@ -160,21 +161,152 @@ impl<'r, 'n, 'a, R: Files + AllocGlobal + Print + Clock + Eprint> Onlookers<'r, 
     }
 }
 
-impl<R: Files + AllocGlobal + Print> Aside<'_, '_, '_, R> {
-    /// Writes what is told of the captures that are cut, and hands on what is held.
-    pub(crate) fn finish<L: LeavesOut>(self, sieve: &L, cut: &[Tap]) -> Written {
-        let Aside { objects, view } = self;
-        Written {
-            view: finish_view(view, sieve, cut),
-            objects: finish_objects(objects, sieve, cut),
+/// Writes what is told of the captures that are cut, and hands on what is held of a run that is done.
+pub(crate) fn finish_aside<R: Files + AllocGlobal + Print, L: LeavesOut>(
+    aside: Option<Aside<'_, '_, '_, R>>,
+    sieve: &L,
+    cut: &[Tap],
+) -> Written {
+    let Some(aside) = aside else {
+        return Written {
+            objects: Ok(()),
+            view: Ok(()),
+        };
+    };
+    let Aside { objects, view } = aside;
+    Written {
+        view: finish_view(view, sieve, cut),
+        objects: finish_objects(objects, sieve, cut),
+    }
+}
+
+/// Hands on what is held of a run that stopped.
+pub(crate) fn leave_aside<R: Files + AllocGlobal + Print>(aside: Option<Aside<'_, '_, '_, R>>) {
+    if let Some(aside) = aside {
+        let Aside { objects, view } = aside;
+        leave_objects(objects);
+        leave_view(view);
+    }
+}
+
+impl Watch for LookedOn<'_, '_> {
+    ghost sees = { λ _ _ _. ⊤ };
+
+    ghost expects = { λ _ _ _. ⊤ };
+
+    ghost ends = { λ _ _ _. ⊤ };
+
+    #[inline]
+    fn see(&mut self, endpoint: &Endpoint, number: u64, event: &Event, came: &Forwarding) {
+        self.onlooker.see(endpoint, number, event, came);
+        if let Some(tunnels) = &mut self.tunnels {
+            tunnels.see(endpoint, number, event, came);
+        }
+        if let Some(talkers) = &mut self.talkers {
+            talkers.see(endpoint, number, event, came);
         }
     }
 
-    /// Hands on what is held of a run that stopped.
-    pub(crate) fn leave(self) {
-        let Aside { objects, view } = self;
-        leave_objects(objects);
-        leave_view(view);
+    #[inline]
+    fn hear_decision(&mut self, endpoint: &Endpoint, forwarding: &Forwarding, places: &[Place]) {
+        self.onlooker.hear_decision(endpoint, forwarding, places);
+        if let Some(tunnels) = &mut self.tunnels {
+            tunnels.hear_decision(endpoint, forwarding, places);
+        }
+        if let Some(talkers) = &mut self.talkers {
+            talkers.hear_decision(endpoint, forwarding, places);
+        }
+    }
+
+    #[inline]
+    fn hear_reply(&mut self, reply: Result<(), ChangeFault>) {
+        self.onlooker.hear_reply(reply);
+        if let Some(tunnels) = &mut self.tunnels {
+            tunnels.hear_reply(reply);
+        }
+        if let Some(talkers) = &mut self.talkers {
+            talkers.hear_reply(reply);
+        }
+    }
+
+    #[inline]
+    fn pass_over(&mut self, endpoint: &Endpoint, number: u64, event: &Event) {
+        self.onlooker.pass_over(endpoint, number, event);
+        if let Some(tunnels) = &mut self.tunnels {
+            tunnels.pass_over(endpoint, number, event);
+        }
+        if let Some(talkers) = &mut self.talkers {
+            talkers.pass_over(endpoint, number, event);
+        }
+    }
+
+    #[inline]
+    fn end(&mut self, endpoint: &Endpoint) {
+        self.onlooker.end(endpoint);
+        if let Some(tunnels) = &mut self.tunnels {
+            tunnels.end(endpoint);
+        }
+        if let Some(talkers) = &mut self.talkers {
+            talkers.end(endpoint);
+        }
+    }
+}
+
+impl<R: Files + AllocGlobal + Print> Watch for Aside<'_, '_, '_, R> {
+    ghost sees = { λ _ _ _. ⊤ };
+
+    ghost expects = { λ _ _ _. ⊤ };
+
+    ghost ends = { λ _ _ _. ⊤ };
+
+    #[inline]
+    fn see(&mut self, endpoint: &Endpoint, number: u64, event: &Event, came: &Forwarding) {
+        if let Some(objects) = &mut self.objects {
+            objects.see(endpoint, number, event, came);
+        }
+        if let Some(view) = &mut self.view {
+            view.see(endpoint, number, event, came);
+        }
+    }
+
+    #[inline]
+    fn hear_decision(&mut self, endpoint: &Endpoint, forwarding: &Forwarding, places: &[Place]) {
+        if let Some(objects) = &mut self.objects {
+            objects.hear_decision(endpoint, forwarding, places);
+        }
+        if let Some(view) = &mut self.view {
+            view.hear_decision(endpoint, forwarding, places);
+        }
+    }
+
+    #[inline]
+    fn hear_reply(&mut self, reply: Result<(), ChangeFault>) {
+        if let Some(objects) = &mut self.objects {
+            objects.hear_reply(reply);
+        }
+        if let Some(view) = &mut self.view {
+            view.hear_reply(reply);
+        }
+    }
+
+    #[inline]
+    fn pass_over(&mut self, endpoint: &Endpoint, number: u64, event: &Event) {
+        if let Some(objects) = &mut self.objects {
+            objects.pass_over(endpoint, number, event);
+        }
+        if let Some(view) = &mut self.view {
+            view.pass_over(endpoint, number, event);
+        }
+    }
+
+    #[inline]
+    fn end(&mut self, endpoint: &Endpoint) {
+        if let Some(objects) = &mut self.objects {
+            objects.end(endpoint);
+        }
+        if let Some(view) = &mut self.view {
+            view.end(endpoint);
+        }
     }
 }
 
@@ -186,99 +318,59 @@ impl<'r, 'n, 'a, R: Files + AllocGlobal + Print + Clock + Eprint> Watch
 
     ghost ends = { λ _ _ _. ⊤ };
 
+    #[inline]
     fn see(&mut self, endpoint: &Endpoint, number: u64, event: &Event, came: &Forwarding) {
-        if let Some(onlooker) = &mut self.looked.onlooker {
-            onlooker.see(endpoint, number, event, came);
+        if let Some(looked) = &mut self.looked {
+            looked.see(endpoint, number, event, came);
         }
-        if let Some(tunnels) = &mut self.looked.tunnels {
-            tunnels.see(endpoint, number, event, came);
-        }
-        if let Some(talkers) = &mut self.looked.talkers {
-            talkers.see(endpoint, number, event, came);
-        }
-        if let Some(objects) = &mut self.aside.objects {
-            objects.see(endpoint, number, event, came);
-        }
-        if let Some(view) = &mut self.aside.view {
-            view.see(endpoint, number, event, came);
+        if let Some(aside) = &mut self.aside {
+            aside.see(endpoint, number, event, came);
         }
         if let Some(progress) = &mut self.progress {
             progress.count(event);
         }
     }
 
+    #[inline]
     fn hear_decision(&mut self, endpoint: &Endpoint, forwarding: &Forwarding, places: &[Place]) {
-        if let Some(onlooker) = &mut self.looked.onlooker {
-            onlooker.hear_decision(endpoint, forwarding, places);
+        if let Some(looked) = &mut self.looked {
+            looked.hear_decision(endpoint, forwarding, places);
         }
-        if let Some(tunnels) = &mut self.looked.tunnels {
-            tunnels.hear_decision(endpoint, forwarding, places);
-        }
-        if let Some(talkers) = &mut self.looked.talkers {
-            talkers.hear_decision(endpoint, forwarding, places);
-        }
-        if let Some(objects) = &mut self.aside.objects {
-            objects.hear_decision(endpoint, forwarding, places);
-        }
-        if let Some(view) = &mut self.aside.view {
-            view.hear_decision(endpoint, forwarding, places);
+        if let Some(aside) = &mut self.aside {
+            aside.hear_decision(endpoint, forwarding, places);
         }
     }
 
+    #[inline]
     fn hear_reply(&mut self, reply: Result<(), ChangeFault>) {
-        if let Some(onlooker) = &mut self.looked.onlooker {
-            onlooker.hear_reply(reply);
+        if let Some(looked) = &mut self.looked {
+            looked.hear_reply(reply);
         }
-        if let Some(tunnels) = &mut self.looked.tunnels {
-            tunnels.hear_reply(reply);
-        }
-        if let Some(talkers) = &mut self.looked.talkers {
-            talkers.hear_reply(reply);
-        }
-        if let Some(objects) = &mut self.aside.objects {
-            objects.hear_reply(reply);
-        }
-        if let Some(view) = &mut self.aside.view {
-            view.hear_reply(reply);
+        if let Some(aside) = &mut self.aside {
+            aside.hear_reply(reply);
         }
     }
 
+    #[inline]
     fn pass_over(&mut self, endpoint: &Endpoint, number: u64, event: &Event) {
-        if let Some(onlooker) = &mut self.looked.onlooker {
-            onlooker.pass_over(endpoint, number, event);
+        if let Some(looked) = &mut self.looked {
+            looked.pass_over(endpoint, number, event);
         }
-        if let Some(tunnels) = &mut self.looked.tunnels {
-            tunnels.pass_over(endpoint, number, event);
-        }
-        if let Some(talkers) = &mut self.looked.talkers {
-            talkers.pass_over(endpoint, number, event);
-        }
-        if let Some(objects) = &mut self.aside.objects {
-            objects.pass_over(endpoint, number, event);
-        }
-        if let Some(view) = &mut self.aside.view {
-            view.pass_over(endpoint, number, event);
+        if let Some(aside) = &mut self.aside {
+            aside.pass_over(endpoint, number, event);
         }
         if let Some(progress) = &mut self.progress {
             progress.count(event);
         }
     }
 
+    #[inline]
     fn end(&mut self, endpoint: &Endpoint) {
-        if let Some(onlooker) = &mut self.looked.onlooker {
-            onlooker.end(endpoint);
+        if let Some(looked) = &mut self.looked {
+            looked.end(endpoint);
         }
-        if let Some(tunnels) = &mut self.looked.tunnels {
-            tunnels.end(endpoint);
-        }
-        if let Some(talkers) = &mut self.looked.talkers {
-            talkers.end(endpoint);
-        }
-        if let Some(objects) = &mut self.aside.objects {
-            objects.end(endpoint);
-        }
-        if let Some(view) = &mut self.aside.view {
-            view.end(endpoint);
+        if let Some(aside) = &mut self.aside {
+            aside.end(endpoint);
         }
         if let Some(progress) = &mut self.progress {
             progress.finish();

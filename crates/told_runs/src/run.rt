@@ -3,11 +3,13 @@ ghost use Rattle.std.specs.Prelude.{◌≡◌, [], Ok, IfSome};
 ghost use Rattle.overlay_config.specs.Change.{IsRising, changes_in};
 ghost use Rattle.overlay.specs.Rules.{EachBehind};
 
+use crate::audit::RunAudit;
 use crate::directions::{LeavesOut, sieve_for, tell_left_out};
-use crate::onlookers::{LookedOn, Onlookers, Written, onlookers_of};
+use crate::onlookers::{LookedOn, Onlookers, Written, finish_aside, leave_aside, onlookers_of};
 use crate::outbound::tell_outbound;
 use crate::progress::progress_of;
 use crate::texts::{print_told, tell_all, tell_missing};
+use both_ways::{Audited, BothWays, Nobody};
 use overlay_config::TimedChange;
 use program_files::{Destination, FailedOutputs, Failure, Names};
 use run_progress::{Progress, Screen};
@@ -36,6 +38,8 @@ pub struct Asked<'n, 'a> {
     pub segments: Option<&'a str>,
     /// How long behind its frame what the switch sent may come, in nanoseconds, where that is to be left out.
     pub within: Option<u64>,
+    /// The file of the list of that, where there is one.
+    pub list: Option<&'a str>,
     /// Whether all is told as JSON, too.
     pub json: bool,
     /// Whether no progress is shown.
@@ -55,7 +59,7 @@ impl Asked<'_, '_> {
     }
 
     /// Whether nothing is written but the outputs that each run has.
-    fn writes_nothing_more(self) -> bool {
+    pub(crate) fn writes_nothing_more(self) -> bool {
         !self.json && self.pcapng.is_none()
     }
 }
@@ -92,45 +96,95 @@ pub fn run_and_tell<'a, R: Files + Input + AllocGlobal + Print + Eprint + Clock 
     };
     // A fault stands on the first line of standard error, so that what was left out is told behind a run that is done alone.
     let Some(sieve) = sieve_for(rt.alloc(), asked.within)? else {
-        let ran = run_plain(rt, job, progress, failed)?;
+        let ran = run_plain(rt, job, &mut TakesAll, &mut Unwatched, progress, failed)?;
         tell_outbound(rt, ran.outbound.as_slice());
         return Ok(());
     };
-    let (ran, sieve) = run_watched(rt, job, sieve, progress, failed)?;
+    if asked.list.is_some() || !asked.why.is_empty() {
+        return run_audited(rt, job, sieve, progress, failed);
+    }
+    let mut sieve = sieve;
+    let ran = run_plain(rt, job, &mut sieve, &mut Nobody, progress, failed)?;
     tell_outbound(rt, ran.outbound.as_slice());
-    tell_left_out(rt, &sieve, names.ports.len());
+    tell_left_out(rt, &sieve, None, names.ports.len());
     Ok(())
 }
 
-/// Runs on all of captures, and prints what is asked for besides. Who asks for nothing, and sees no progress, pays nothing for it.
-fn run_plain<'r, 'a, R: Files + Input + AllocGlobal + Print + Eprint + Clock>(
+/// The same on what a sieve takes in, where account is kept of what it leaves out.
+#[inline(never)]
+fn run_audited<'r, 'a, R: Files + Input + AllocGlobal + Print + Eprint + Clock>(
     rt: &'r R,
     job: AskedJob<'_, '_, 'a>,
+    sieve: BothWays,
+    progress: Option<Progress<'r, R>>,
+    failed: &mut FailedOutputs,
+) -> Result<(), Failure<'a>> {
+    let audit = match RunAudit::new(rt, job) {
+        Ok(audit) => audit,
+        Err(failure) => return Err(failure),
+    };
+    let mut sieve = Audited { both: sieve, audit };
+    let run = run_watched(rt, job, &mut sieve, progress, failed);
+    let Audited { both, audit } = sieve;
+    match run {
+        Ok(ran) => {
+            let placed = match audit.finish() {
+                Ok(placed) => placed,
+                Err(failure) => return Err(failure),
+            };
+            tell_outbound(rt, ran.outbound.as_slice());
+            // A part doesn't know where the whole run sends frames of other segments.
+            let placed = match job.asked.segments {
+                Some(_) => None,
+                None => placed.as_ref(),
+            };
+            tell_left_out(rt, &both, placed, job.names.ports.len());
+            Ok(())
+        }
+        Err(failure) => {
+            audit.leave();
+            Err(failure)
+        }
+    }
+}
+
+/// Runs on what a sieve takes in of captures, and prints what is asked for besides. Who asks for nothing, and sees no progress, pays
+/// nothing for it: nobody looks on.
+fn run_plain<
+    'r,
+    'a,
+    R: Files + Input + AllocGlobal + Print + Eprint + Clock,
+    S: Sieve + LeavesOut,
+    T: Watch,
+>(
+    rt: &'r R,
+    job: AskedJob<'_, '_, 'a>,
+    sieve: &mut S,
+    nobody: &mut T,
     progress: Option<Progress<'r, R>>,
     failed: &mut FailedOutputs,
 ) -> Result<Ran<R::File>, Failure<'a>> {
     if job.asked.is_nothing() && job.asked.writes_nothing_more() && progress.is_none() {
-        let run = run_asked(rt, job, None, &mut TakesAll, &mut Unwatched, failed);
+        let run = run_asked(rt, job, None, sieve, nobody, failed);
         return finished(rt, run);
     }
-    let (ran, _) = run_watched(rt, job, TakesAll, progress, failed)?;
-    Ok(ran)
+    run_watched(rt, job, sieve, progress, failed)
 }
 
-/// Runs on what a sieve takes in of captures while someone looks on, and prints what is asked for besides. The sieve comes back.
+/// Runs on what a sieve takes in of captures while someone looks on, and prints what is asked for besides.
 #[inline(never)]
 fn run_watched<
     'r,
     'a,
     R: Files + Input + AllocGlobal + Print + Eprint + Clock,
-    S: Sieve + LeavesOut + Drop,
+    S: Sieve + LeavesOut,
 >(
     rt: &'r R,
     job: AskedJob<'_, '_, 'a>,
-    sieve: S,
+    sieve: &mut S,
     progress: Option<Progress<'r, R>>,
     failed: &mut FailedOutputs,
-) -> Result<(Ran<R::File>, S), Failure<'a>> {
+) -> Result<Ran<R::File>, Failure<'a>> {
     let read = job.texts.changes_read(rt.alloc())?;
     let changes = match &read {
         Some(changes) => Some(changes.as_slice()),
@@ -140,12 +194,8 @@ fn run_watched<
         Ok(onlookers) => onlookers,
         Err(failure) => return Err(failure),
     };
-    let mut sieve = sieve;
-    let run = run_asked(rt, job, changes, &mut sieve, &mut onlookers, failed);
-    match end_run(rt, job, onlookers, &sieve, run) {
-        Ok(ran) => Ok((ran, sieve)),
-        Err(failure) => Err(failure),
-    }
+    let run = run_asked(rt, job, changes, sieve, &mut onlookers, failed);
+    end_run(rt, job, onlookers, sieve, run)
 }
 
 /// Ends a run at which someone looked on: what was written beside it is handed on, and what was told is printed.
@@ -160,13 +210,13 @@ fn end_run<'a, R: Files + AllocGlobal + Print + Eprint + Clock, S: LeavesOut>(
     let (looked, aside) = onlookers.apart();
     match run {
         Ok(ran) => {
-            let written = aside.finish(sieve, ran.cut.as_slice());
+            let written = finish_aside(aside, sieve, ran.cut.as_slice());
             tell_done(rt, job, looked, written, sieve, ran)
         }
         Err(failure) => {
-            aside.leave();
+            leave_aside(aside);
             // What was told stands, wherever the run stopped.
-            let _ = print_told(rt, job.asked.json, looked);
+            let _ = print_told(rt, job.asked.json, looked, sieve);
             Err(failure)
         }
     }
@@ -176,14 +226,14 @@ fn end_run<'a, R: Files + AllocGlobal + Print + Eprint + Clock, S: LeavesOut>(
 fn tell_done<'a, R: Files + AllocGlobal + Print + Eprint, S: LeavesOut>(
     rt: &R,
     job: AskedJob<'_, '_, 'a>,
-    looked: LookedOn<'_, '_>,
+    looked: Option<LookedOn<'_, '_>>,
     written: Written,
     sieve: &S,
     ran: Ran<R::File>,
 ) -> Result<Ran<R::File>, Failure<'a>> {
     let mut ran = ran;
     let Written { objects, view } = written;
-    let found = tell_missing(rt, job.asked.why, &looked);
+    let found = tell_missing(rt, job.asked.why, &looked, sieve);
     let told = tell_all(rt, job, looked, objects, sieve, &mut ran);
     match told.and(view).and(found) {
         Ok(()) => Ok(ran),

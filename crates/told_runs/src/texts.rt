@@ -18,22 +18,22 @@ use tunnel_traffic::TunnelTraffic;
 pub(crate) fn tell_all<R: Files + AllocGlobal + Print, L: LeavesOut>(
     rt: &R,
     job: AskedJob<'_, '_, '_>,
-    looked: LookedOn<'_, '_>,
+    looked: Option<LookedOn<'_, '_>>,
     written: Result<(), Failure<'static>>,
     sieve: &L,
     ran: &mut Ran<R::File>,
 ) -> Result<(), Failure<'static>> {
-    let LookedOn {
-        onlooker,
-        tunnels,
-        talkers,
-    } = looked;
-    let Some(onlooker) = onlooker else {
+    let Some(looked) = looked else {
         return match written {
             Ok(()) => ran.finish(rt),
             Err(failure) => Err(failure),
         };
     };
+    let LookedOn {
+        onlooker,
+        tunnels,
+        talkers,
+    } = looked;
     let Onlooker { reports, counts } = onlooker;
     let Ok((told, tables)) = reports.into_texts() else {
         return Err(Failure::from(AllocError));
@@ -47,6 +47,7 @@ pub(crate) fn tell_all<R: Files + AllocGlobal + Print, L: LeavesOut>(
     };
     let json = job.asked.json;
     left.and(print_as(rt, json, Kind::Events, told.as_slice()))
+        .and(print_left_out(rt, json, sieve))
         .and(print_as(rt, json, Kind::Tables, texts.tables.as_slice()))
         .and(print_as(rt, json, Kind::Counts, texts.summary.as_slice()))
         .and(print_as(rt, json, Kind::Counts, talks.as_slice()))
@@ -108,25 +109,33 @@ fn summary_of<L: LeavesOut>(
 }
 
 /// Prints what a run told, where anything is printed.
-pub(crate) fn print_told<R: AllocGlobal + Print>(
+pub(crate) fn print_told<R: AllocGlobal + Print, L: LeavesOut>(
     rt: &R,
     json: bool,
-    looked: LookedOn<'_, '_>,
+    looked: Option<LookedOn<'_, '_>>,
+    sieve: &L,
 ) -> Result<(), Failure<'static>> {
-    let LookedOn { onlooker, .. } = looked;
-    let Some(onlooker) = onlooker else {
+    let Some(looked) = looked else {
         return Ok(());
     };
+    let LookedOn { onlooker, .. } = looked;
     let Onlooker { reports, .. } = onlooker;
     let Ok((told, tables)) = reports.into_texts() else {
         return Err(Failure::from(AllocError));
     };
-    print_as(rt, json, Kind::Events, told.as_slice()).and(print_as(
-        rt,
-        json,
-        Kind::Tables,
-        tables.as_slice(),
-    ))
+    print_as(rt, json, Kind::Events, told.as_slice())
+        .and(print_left_out(rt, json, sieve))
+        .and(print_as(rt, json, Kind::Tables, tables.as_slice()))
+}
+
+/// Prints what is told of the records that were left out and are asked for by name.
+fn print_left_out<R: AllocGlobal + Print, L: LeavesOut>(
+    rt: &R,
+    json: bool,
+    sieve: &L,
+) -> Result<(), Failure<'static>> {
+    let told = sieve.told()?;
+    print_as(rt, json, Kind::Events, told)
 }
 
 /// Prints lines of a kind, as JSON objects where that is asked for.
@@ -139,18 +148,19 @@ fn print_as<R: AllocGlobal + Print>(
     print_shown(rt, Shown::of(json, kind), text)
 }
 
-/// Says of each name that no event had that none did, but for the last, which is the failure.
-pub(crate) fn tell_missing<'a>(
+/// Says of each name that no event had, and no record that was left out, that none did, but for the last, which is the failure.
+pub(crate) fn tell_missing<'a, L: LeavesOut>(
     rt: &impl Eprint,
     names: &[&'a str],
-    looked: &LookedOn<'_, '_>,
+    looked: &Option<LookedOn<'_, '_>>,
+    sieve: &L,
 ) -> Result<(), Failure<'a>> {
-    let Some(onlooker) = &looked.onlooker else {
+    let Some(LookedOn { onlooker, .. }) = looked else {
         return Ok(());
     };
     let mut missing = Ok(());
     for (place, name) in names.iter().enumerate() {
-        if !onlooker.reports.is_found(place) {
+        if !onlooker.reports.is_found(place) && !sieve.is_named(place) {
             if let Err(failure) = &missing {
                 let _ = eprintln!(rt; "{failure}");
             }

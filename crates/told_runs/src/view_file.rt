@@ -1,96 +1,30 @@
 //! The file of the view of a run, or standard output for it.
-//!
-//! The file is opened and emptied when the first block of the view goes out, by one who looks on at a run: so where the texts are
-//! refused, or an output can't be opened, what stands in it is kept. It may be no file that is read and no other output: those that
-//! stand are looked at before the run, and all once more when it is opened, for then all outputs are there.
-ghost use Rattle.std.specs.Io.{WritesAtMost};
-ghost use Rattle.std.specs.Prelude.{None};
-
 use crate::directions::LeavesOut;
+use crate::run::AskedJob;
+use crate::side_file::{SideOutput, finish_side, side_output};
 use overlay_config::TimedChange;
-use pcap::stream::{BlockOutput, StdOutput};
-use program_files::{
-    FILES_OF_A_RUN, Failure, FoundFiles, Names, OutputDevice, OutputFile, SystemFault, Unwritten,
-    UnwrittenFile, file_of, file_of_run, path_of, place_of,
-};
+use program_files::Failure;
 use run_view::View;
-use std::alloc::{AllocError, Global};
-use std::fs::{OpenFile, OpenOptions};
-use std::io::{self, ErrorKind, Write};
-use std::path::Path;
 use std::rt::Files;
 use timeline::{Cut, Tap};
 
-/// How many octets are written at once, where no capture may wait.
-const BLOCK: usize = 65_536;
+/// Who writes the view of a run into its file.
+pub(crate) type RunView<'r, 'n, 'a, 'c, R> = View<'c, SideOutput<'r, 'n, 'a, R>>;
 
-/// The name by which standard output is asked for, and the file that it is.
-const STANDARD_OUTPUT: &str = "-";
-
-const STANDARD_OUTPUT_FILE: &str = "/dev/stdout";
-
-/// A view that is asked for, and what its file may not be.
-#[derive(Clone, Copy)]
-pub(crate) struct AskedView<'n, 'a> {
-    pub(crate) name: &'a str,
-    pub(crate) names: Names<'n, 'a>,
-    pub(crate) folder: Option<&'n str>,
-    /// Whether something is printed on standard output.
-    pub(crate) prints: bool,
-}
-
-/// The file of a view, written in blocks.
-pub(crate) type ViewOutput<'r, 'n, 'a, R> = BlockOutput<StdOutput<ViewFile<'r, 'n, 'a, R>>>;
-
-/// Who writes the view of a run into that file.
-pub(crate) type RunView<'r, 'n, 'a, 'c, R> = View<'c, ViewOutput<'r, 'n, 'a, R>>;
-
-/// What a file is already that a view must not be.
-#[derive(Clone, Copy)]
-enum Taken<'a> {
-    Input(&'a str),
-    Output(OutputFile),
-}
-
-/// A file that is opened and emptied when it is first written; or standard output, whose reader may go away.
-#[derive(Drop)]
-pub(crate) struct ViewFile<'r, 'n, 'a, R: Files> {
-    rt: &'r R,
-    asked: AskedView<'n, 'a>,
-    file: Option<OutputDevice<R::File>>,
-    /// Why it can't be written, as far as that was told.
-    why: Option<Unwritten>,
-    /// Whether nobody reads standard output any more.
-    is_left: bool,
-}
-
-/// Who writes the view of a run on so many ports and with these changes, where one is asked for. A file that stands and is read, or is
-/// another output, is refused.
+/// Who writes the view of a run with these changes, where one is asked for.
 pub(crate) fn view_of_run<'r, 'n, 'a, 'c, R: Files + AllocGlobal + Print>(
     rt: &'r R,
-    asked: Option<AskedView<'n, 'a>>,
+    job: AskedJob<'n, 'n, 'a>,
     changes: &'c [TimedChange],
 ) -> Result<Option<RunView<'r, 'n, 'a, 'c, R>>, Failure<'static>> {
-    let Some(asked) = asked else {
+    let Some(name) = job.asked.pcapng else {
         return Ok(None);
     };
-    if let Some(name) = taken_as(rt, rt.alloc(), asked)? {
-        return Err(unwritten(rt.alloc(), asked.name, Unwritten::Is(name)));
-    }
-    let block = if asked.names.are_regular_files(rt) {
-        BLOCK
-    } else {
-        0
+    let output = match side_output(rt, job, name, job.asked.list) {
+        Ok(output) => output,
+        Err(failure) => return Err(failure),
     };
-    let file = ViewFile {
-        rt,
-        asked,
-        file: None,
-        why: None,
-        is_left: false,
-    };
-    let output = BlockOutput::new(rt.alloc(), StdOutput::new(file), block)?;
-    let ports = u8::try_from(asked.names.ports.len()).unwrap_or(u8::MAX);
+    let ports = u8::try_from(job.names.ports.len()).unwrap_or(u8::MAX);
     let view = View::new(rt.alloc(), output, ports, changes)?;
     Ok(Some(view))
 }
@@ -119,199 +53,5 @@ pub(crate) fn finish_view<R: Files + AllocGlobal + Print, L: LeavesOut>(
         view.cut(&Cut { tap: *tap, whole });
     }
     let is_failed = view.is_failed();
-    let mut output = view.into_output();
-    if !is_failed && output.finish().is_ok() {
-        return Ok(());
-    }
-    let file = output.into_inner().into_inner();
-    Err(file.into_failure())
-}
-
-/// What the file of a view is already, if anything: a file that is read, or another output. It is told as it is called.
-fn taken_as<R: Files>(
-    rt: &R,
-    alloc: Global,
-    asked: AskedView<'_, '_>,
-) -> Result<Option<String>, AllocError> {
-    let Some(place) = place_of(rt, Path::new(path_asked(asked.name))) else {
-        return Ok(None);
-    };
-    let mut files = FoundFiles::none(alloc);
-    note_inputs(rt, &mut files, asked.names)?;
-    if asked.prints {
-        let path = Path::new(STANDARD_OUTPUT_FILE);
-        files.note(rt, path, Taken::Output(OutputFile::Stdout))?;
-    }
-    let folder = asked.folder.unwrap_or("");
-    if asked.folder.is_some() {
-        note_outputs(rt, alloc, &mut files, folder)?;
-    }
-    let name = match files.at(place) {
-        None => return Ok(None),
-        Some(Taken::Input(name)) => String::from_str(alloc, name)?,
-        Some(Taken::Output(OutputFile::Stdout)) => String::from_str(alloc, STANDARD_OUTPUT_FILE)?,
-        Some(Taken::Output(output)) => format!(in alloc; "{folder}/{output}")?,
-    };
-    Ok(Some(name))
-}
-
-/// Notes the files that a run reads.
-fn note_inputs<'a, R: Files>(
-    rt: &R,
-    files: &mut FoundFiles<Taken<'a>>,
-    names: Names<'_, 'a>,
-) -> Result<(), AllocError> {
-    files.note(rt, Path::new(names.settings), Taken::Input(names.settings))?;
-    if let Some(name) = names.changes {
-        files.note(rt, Path::new(name), Taken::Input(name))?;
-    }
-    if let Some(name) = names.digests {
-        files.note(rt, Path::new(name), Taken::Input(name))?;
-    }
-    let underlay = Path::new(file_of(names.underlay));
-    files.note(rt, underlay, Taken::Input(names.underlay))?;
-    for name in names.ports {
-        files.note(rt, Path::new(file_of(*name)), Taken::Input(*name))?;
-    }
-    Ok(())
-}
-
-/// Notes the files that a run may leave in its folder.
-fn note_outputs<R: Files>(
-    rt: &R,
-    alloc: Global,
-    files: &mut FoundFiles<Taken<'_>>,
-    folder: &str,
-) -> Result<(), AllocError> {
-    for index in 0..FILES_OF_A_RUN {
-        let output = file_of_run(index);
-        let path = path_of(alloc, folder, output)?;
-        files.note(rt, path.as_path(), Taken::Output(output))?;
-    }
-    Ok(())
-}
-
-/// The file that a view's name stands for.
-fn path_asked(name: &str) -> &str {
-    if name == STANDARD_OUTPUT {
-        STANDARD_OUTPUT_FILE
-    } else {
-        name
-    }
-}
-
-/// That the view couldn't be written.
-fn unwritten(alloc: Global, name: &str, why: Unwritten) -> Failure<'static> {
-    match String::from_str(alloc, name) {
-        Ok(path) => Failure::Unwritten(UnwrittenFile { path, why }),
-        Err(error) => Failure::from(error),
-    }
-}
-
-impl<'r, 'n, 'a, R: Files + AllocGlobal + Print> ViewFile<'r, 'n, 'a, R> {
-    /// Opens the file, and empties it where it is a regular one and no file that is read or another output.
-    fn open(&mut self) -> io::Result<OutputDevice<R::File>> {
-        let file = match OpenOptions::new()
-            .write(true)
-            .create(true)
-            .open(self.rt, self.asked.name)
-        {
-            Ok(file) => file,
-            Err(error) => return Err(self.refused(error)),
-        };
-        match taken_as(self.rt, self.rt.alloc(), self.asked) {
-            Ok(None) => {}
-            Ok(Some(name)) => {
-                self.why = Some(Unwritten::Is(name));
-                return Err(io::Error::from(ErrorKind::Other));
-            }
-            Err(_) => return Err(io::Error::from(ErrorKind::OutOfMemory)),
-        }
-        if let Err(error) = empty(&file) {
-            return Err(self.refused(error));
-        }
-        Ok(OutputDevice::new(file))
-    }
-
-    /// Keeps what the system told.
-    fn refused(&mut self, error: io::Error) -> io::Error {
-        self.why = Some(Unwritten::of(SystemFault::of(&error)));
-        error
-    }
-
-    /// Writes to the file, which is opened where it wasn't yet.
-    fn write_file(&mut self, octets: &[u8]) -> io::Result<usize>
-        ensures { WritesAtMost result octets.now }
-    {
-        if self.file.is_none() {
-            let file = self.open()?;
-            self.file = Some(file);
-        }
-        match &mut self.file {
-            Some(file) => file.write(octets),
-            None => Err(io::Error::from(ErrorKind::Other)),
-        }
-    }
-
-    /// Writes to standard output. Where its reader went away it had enough, and nothing is lost.
-    fn write_out(&mut self, octets: &[u8]) -> io::Result<usize>
-        ensures { WritesAtMost result octets.now }
-    {
-        if self.is_left {
-            return Ok(octets.len());
-        }
-        let error = match io::writer(self.rt).write(octets) {
-            Ok(count) => return Ok(count),
-            Err(error) => error,
-        };
-        if error.kind() == ErrorKind::BrokenPipe {
-            self.is_left = true;
-            return Ok(octets.len());
-        }
-        if error.kind() == ErrorKind::Interrupted {
-            return Err(error);
-        }
-        Err(self.refused(error))
-    }
-
-    /// Why it couldn't be written.
-    fn into_failure(self) -> Failure<'static> {
-        let ViewFile {
-            rt,
-            asked,
-            file,
-            why,
-            ..
-        } = self;
-        let told = match file {
-            Some(file) => Unwritten::of(file.fault()),
-            None => Unwritten::Untold,
-        };
-        unwritten(rt.alloc(), asked.name, why.unwrap_or(told))
-    }
-}
-
-/// Takes what stands in a regular file out of it.
-fn empty<F: OpenFile>(file: &F) -> io::Result<()> {
-    if file.metadata()?.is_file() {
-        file.set_len(0)
-    } else {
-        Ok(())
-    }
-}
-
-impl<'r, 'n, 'a, R: Files + AllocGlobal + Print> Write for ViewFile<'r, 'n, 'a, R> {
-    ghost contents = { λ _. None };
-
-    fn write(&mut self, octets: &[u8]) -> io::Result<usize> {
-        if self.asked.name == STANDARD_OUTPUT {
-            self.write_out(octets)
-        } else {
-            self.write_file(octets)
-        }
-    }
-
-    fn flush(&mut self) -> io::Result<()> {
-        Ok(())
-    }
+    finish_side(view.into_output(), is_failed)
 }

@@ -1,6 +1,6 @@
-//! What is told of frames that were forgotten.
-use both_ways::ForgottenLine;
-use echo_window::Forgotten;
+//! What is told of frames that were forgotten, and of records that are left out.
+use both_ways::{Cause, ForgottenLine, LeftOut};
+use echo_window::{Forgotten, Origin};
 use std::alloc::Global;
 use std::test::Fail;
 
@@ -80,5 +80,37 @@ fn wrong_line<'a>(alloc: Global, rows: &[LineRow<'a>]) -> Result<Option<&'a str>
 fn the_line_names_a_time_that_fits(rt: HostRuntime) -> Result<(), Fail> {
     let wrong = wrong_line(rt.alloc(), &ROWS)?.unwrap_or("none");
     assert_eq!(rt; wrong, "none");
+    Ok(())
+}
+
+/// The line of record 7 at a place, at this moment.
+fn left_out_line(alloc: Global, place: u8, moment: u64, cause: Cause) -> Result<String, Fail> {
+    let left = LeftOut {
+        place,
+        number: 7,
+        moment,
+        cause,
+    };
+    Ok(format!(in alloc; "{left}")?)
+}
+
+/// That it is the echo of the frame that record 6 of a place brought, at 1 ms.
+fn echo_of(place: u8) -> Cause {
+    Cause::Echo(Origin {
+        place,
+        number: 6,
+        moment: 1_000_000,
+    })
+}
+
+#[test]
+fn the_line_names_the_record_that_brought_the_frame(rt: HostRuntime) -> Result<(), Fail> {
+    let alloc = rt.alloc();
+    let line = left_out_line(alloc, 2, 1_041_000, echo_of(1))?;
+    assert_eq!(rt; line.as_str(), "p2 7 of p1 6, 41us");
+    let line = left_out_line(alloc, 255, 1_041_234, echo_of(0))?;
+    assert_eq!(rt; line.as_str(), "p255 7 of u 6, 41234ns");
+    let line = left_out_line(alloc, 0, 5, Cause::Sent)?;
+    assert_eq!(rt; line.as_str(), "u 7 sent");
     Ok(())
 }

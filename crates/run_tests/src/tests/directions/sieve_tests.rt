@@ -239,9 +239,15 @@ fn close_second(asked: &mut Asked) -> bool {
         number: 1,
         happening: Happening::Change(0),
     };
-    let is_input = asked.both.is_input(&asked.endpoint, &event, &nothing_came());
+    let is_input = asked
+        .both
+        .is_input(&asked.endpoint, &event, &nothing_came());
     let now = asked.endpoint.now();
-    is_input && asked.endpoint.change(now, Change::PortDown { port: 2 }).is_ok()
+    is_input
+        && asked
+            .endpoint
+            .change(now, Change::PortDown { port: 2 })
+            .is_ok()
 }
 
 #[test]

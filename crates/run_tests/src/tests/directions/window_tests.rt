@@ -1,5 +1,5 @@
 //! How much a window keeps.
-use echo_window::{Forgotten, FrameText, PlaceSet, Record, Window};
+use echo_window::{Forgotten, FrameText, Origin, PlaceSet, Record, Window};
 use std::alloc::Global;
 use std::test::Fail;
 
@@ -12,11 +12,12 @@ fn nine_places() -> PlaceSet {
     places
 }
 
-/// Shows a window a frame that begins with a number, all at one moment. What is no echo came in.
-fn show(window: &mut Window, place: u8, number: u32, rest: &[u8]) -> Option<u8> {
+/// Shows a window a frame that begins with a number, that of its record, all at one moment. What is no echo came in.
+fn show(window: &mut Window, place: u8, number: u32, rest: &[u8]) -> Option<Origin> {
     let octets = number.to_be_bytes();
     let record = Record {
         place,
+        number: u64::from(number),
         moment: 7,
         frame: &FrameText::new(&octets, rest),
         awaited: &nine_places(),
@@ -28,8 +29,17 @@ fn show(window: &mut Window, place: u8, number: u32, rest: &[u8]) -> Option<u8> 
     met
 }
 
-/// Where the first of so many frames came in, shown again at place 2 behind all others of place 1.
-fn first_again(alloc: Global, count: u32, rest: &[u8]) -> Result<Option<u8>, Fail> {
+/// The record at place 1 that brought a frame of this number.
+fn brought(number: u32) -> Option<Origin> {
+    Some(Origin {
+        place: 1,
+        number: u64::from(number),
+        moment: 7,
+    })
+}
+
+/// Which record brought the first of so many frames, shown again at place 2 behind all others of place 1.
+fn first_again(alloc: Global, count: u32, rest: &[u8]) -> Result<Option<Origin>, Fail> {
     let mut window = Window::new(alloc, 10)?;
     for number in 0..count {
         let _ = show(&mut window, 1, number, rest);
@@ -40,7 +50,7 @@ fn first_again(alloc: Global, count: u32, rest: &[u8]) -> Result<Option<u8>, Fai
 #[test]
 fn the_latest_4096_frames_are_kept(rt: HostRuntime) -> Result<(), Fail> {
     let rest = [0x55; 2];
-    assert!(rt; first_again(rt.alloc(), 4096, &rest)? == Some(1));
+    assert!(rt; first_again(rt.alloc(), 4096, &rest)? == brought(0));
     assert!(rt; first_again(rt.alloc(), 4097, &rest)?.is_none());
     Ok(())
 }
@@ -49,15 +59,15 @@ fn the_latest_4096_frames_are_kept(rt: HostRuntime) -> Result<(), Fail> {
 fn the_latest_4_mib_are_kept(rt: HostRuntime) -> Result<(), Fail> {
     let mut rest = Vec::new(rt.alloc());
     rest.resize(65_532, 0x55)?;
-    assert!(rt; first_again(rt.alloc(), 64, rest.as_slice())? == Some(1));
+    assert!(rt; first_again(rt.alloc(), 64, rest.as_slice())? == brought(0));
     assert!(rt; first_again(rt.alloc(), 65, rest.as_slice())?.is_none());
     Ok(())
 }
 
-/// The first of some frames of place 1 that isn't found at place 2.
+/// The first of some frames of place 1 of which place 2 isn't told its record.
 fn first_lost(window: &mut Window, from: u32, to: u32, rest: &[u8]) -> Option<u32> {
     for number in from..to {
-        if show(window, 2, number, rest) != Some(1) {
+        if show(window, 2, number, rest) != brought(number) {
             return Some(number);
         }
     }
@@ -84,6 +94,7 @@ fn forgotten_behind(alloc: Global, within: u64, count: u32) -> Result<Forgotten,
         let octets = number.to_be_bytes();
         let record = Record {
             place: 1,
+            number: 1,
             moment: u64::from(number),
             frame: &FrameText::new(&octets, &[]),
             awaited: &nine_places(),
@@ -118,6 +129,7 @@ fn forgotten_behind_met(alloc: Global, count: u32) -> Result<Forgotten, Fail> {
         let frame = FrameText::new(&octets, &[]);
         let came = Record {
             place: 1,
+            number: 1,
             moment: 7,
             frame: &frame,
             awaited: &second,
@@ -126,6 +138,7 @@ fn forgotten_behind_met(alloc: Global, count: u32) -> Result<Forgotten, Fail> {
         if number == 0 {
             let _ = window.meet(&Record {
                 place: 2,
+                number: 1,
                 moment: 7,
                 frame: &frame,
                 awaited: &second,
@@ -158,6 +171,6 @@ fn a_frame_is_awaited_at_its_places_alone(rt: HostRuntime) -> Result<(), Fail> {
     let mut window = Window::new(rt.alloc(), 10)?;
     let _ = show(&mut window, 1, 0, &[]);
     assert!(rt; show(&mut window, 10, 0, &[]).is_none());
-    assert!(rt; show(&mut window, 9, 0, &[]) == Some(1));
+    assert!(rt; show(&mut window, 9, 0, &[]) == brought(0));
     Ok(())
 }

@@ -28,13 +28,13 @@ const LINES: [(&[&str], &str); 14] = [
         ],
         "Run { settings: \"s\", changes: None, underlay: \"u\", out: Some(\"d\"), ports: [\"p1\", \"p2\"], tables: false, \
         tables_at: None, why: [], summary: false, talkers: false, segments: None, digests: None, both: false, \
-        within: None, json: false, quiet: false, pcapng: None }",
+        within: None, list: None, json: false, quiet: false, pcapng: None }",
     ),
     (
         &["tep", "run", "-s=s", "-u=u", "--summary", "p1"],
         "Run { settings: \"s\", changes: None, underlay: \"u\", out: None, ports: [\"p1\"], tables: false, tables_at: None, \
         why: [], summary: true, talkers: false, segments: None, digests: None, both: false, \
-        within: None, json: false, quiet: false, pcapng: None }",
+        within: None, list: None, json: false, quiet: false, pcapng: None }",
     ),
     (
         &["tep", "check", "--changes", "c", "--settings", "s"],
@@ -80,7 +80,7 @@ const LINES: [(&[&str], &str); 14] = [
         ],
         "Run { settings: \"s\", changes: Some(\"c\"), underlay: \"u\", out: Some(\"d\"), ports: [\"-\", \"p2\"], tables: true, \
         tables_at: Some(7), why: [\"2\", \"u:1\"], summary: true, talkers: false, segments: Some(\"1-9,none\"), \
-        digests: Some(\"d\"), both: false, within: None, json: false, quiet: false, pcapng: None }",
+        digests: Some(\"d\"), both: false, within: None, list: None, json: false, quiet: false, pcapng: None }",
     ),
     (
         &["tep", "check", "-s", "-", "-c", "-", "-u", "u", "p1", "-"],

@@ -29,7 +29,7 @@ invariant_of-self c =
     let room = fits-told c.args.self.now.came (first_met (told c.args.met.now)) c.requires.room in
     let items = c.push_back_reserved.ensures.items in
     let text = c.args.met.now.frame.now in
-    let kept : Kept = record { place = c.args.met.now.place; moment = c.args.met.now.moment; at = c.octets_before.result; length = c.octet_count.result; before = c.enter.result; alike = c.is_alike.result; awaited = c.copied.result } in
+    let kept : Kept = record { place = c.args.met.now.place; number = c.args.met.now.number; moment = c.args.met.now.moment; at = c.octets_before.result; length = c.octet_count.result; before = c.enter.result; alike = c.is_alike.result; awaited = c.copied.result } in
     let more = deque_capacity c.push_back_reserved.new.self in
     let x = kept-put (deque_capacity c.self.inside.frames) more c.self.inside.index.gone c.self.inside.index.passed c.enter.new.self.gone c.enter.new.self.passed c.args.bucket (min (c.self.inside.index.gone + (c.len.result + 1)) 18446744073709551615) kept text c.self.inside.frames.items c.self.inside.row c.self.inside.index.latest.items c.enter.new.self.latest.items
     (omega (arith, c.push_back_reserved.ensures.capacity, c.self.invariant.stands.reserved)) (omega (arith, n, room.0)) (omega (arith, o, room.1)) c.octet_count.ensures c.requires.bucket c.requires.known
@@ -43,7 +43,7 @@ returns c =
     let n = count-is _ _ _ v in
     let room = fits-told c.args.self.now.came (first_met (told c.args.met.now)) c.requires.room in
     let items = c.push_back_reserved.ensures.items in
-    let kept : Kept = record { place = c.args.met.now.place; moment = c.args.met.now.moment; at = c.octets_before.result; length = c.octet_count.result; before = c.enter.result; alike = c.is_alike.result; awaited = c.copied.result } in
+    let kept : Kept = record { place = c.args.met.now.place; number = c.args.met.now.number; moment = c.args.met.now.moment; at = c.octets_before.result; length = c.octet_count.result; before = c.enter.result; alike = c.is_alike.result; awaited = c.copied.result } in
     let text = c.args.met.now.frame.now in
     let last : came_of kept text ≡ first_met (told c.args.met.now) = cc in
     as-window _ _ c.args.self.now _ _ c.self.view_is

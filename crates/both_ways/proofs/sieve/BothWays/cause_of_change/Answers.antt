@@ -1,7 +1,7 @@
 use Rattle.std.proofs.Common.{ℕ, Bool, List, ap}
 use Rattle.std.proofs.Math.Path.{fun_ext}
 use Rattle.both_ways.specs.Sieve.{Seen}
-use Rattle.both_ways.proofs.sieve.BothWays.takes_change.Goals as goal
+use Rattle.both_ways.proofs.sieve.BothWays.cause_of_change.Goals as goal
 
 pub returns-clause-behind : goal.returns-clause-behind
 returns-clause-behind c = λ S changes before.

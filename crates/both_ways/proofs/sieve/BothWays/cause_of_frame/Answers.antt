@@ -10,8 +10,9 @@ use Rattle.both_ways.specs.Sieve.{Seen, asked_of, seen_of, window_with}
 use Rattle.both_ways.specs.Told.{brought, untagged}
 use Rattle.overlay.specs.Ports.{Ports}
 use Rattle.both_ways.proofs.Bringing.{frame_behind}
+use Rattle.both_ways.proofs.Causes.{no_origin}
 use Rattle.both_ways.proofs.Untagging.{came_text}
-use Rattle.both_ways.proofs.sieve.BothWays.takes_frame.Goals as goal
+use Rattle.both_ways.proofs.sieve.BothWays.cause_of_frame.Goals as goal
 
 pub enter_frame-requires : goal.enter_frame-requires
 enter_frame-requires c = λ x is.
@@ -26,10 +27,10 @@ returns-clause-behind c = λ changes.
     let P = s.settings.ports in
     let ports = c.ports.ensures.value ∙ ap (λ (held : Held). (settings_of held).ports) c.state.ensures.value in
     let text = c.untagged-frame.ensures ∙ ap (λ (k : Captured). untagged k.octets) c.captured.view_is in
-    let none = sym (ap (λ (t : List ℕ). is_some (echo_of s.window.within s.window.came (asked_of c.args.port c.args.moment t))) text) ∙ sym c.is_echo.ensures.answer ∙ c.if-is_echo.false in
-    let met = c.is_echo.ensures.behind ∙ ap (λ (t : List ℕ). behind_met s.window (asked_of c.args.port c.args.moment t)) text in
+    let none = sym (ap (λ (t : List ℕ). is_some (echo_of s.window.within s.window.came (asked_of c.args.port c.args.event.now.moment t))) text) ∙ sym (ap is_some c.echoed.ensures.answer) ∙ no_origin c.echoed.result c.in_default.not-Some in
+    let met = c.echoed.ensures.behind ∙ ap (λ (t : List ℕ). behind_met s.window (asked_of c.args.port c.args.event.now.moment t)) text in
     let sends = fun_ext (λ (vid : ℕ). subst (λ (p : Ports). kept_outlets c.enter_frame.new.outlets p vid ≡ kept_outlets c.args.self.now.outlets p vid) ports (c.enter_frame.ensures.outlets vid)) in
     ap (λ (f : ℕ → List Bool). let k : Seen = record { settings = s.settings; changes = changes; sends_at = f; window = c.enter_frame.new.window; counts = s.counts } in k) sends
     ∙ ap (λ (x : Window). let k : Seen = record { settings = s.settings; changes = changes; sends_at = s.sends_at; window = x; counts = s.counts } in k)
-    (frame_behind s c.args.port c.args.moment c.args.captured.now c.args.came.now c.is_echo.new.window c.enter_frame.new.window none c.requires met
-    (c.enter_frame.ensures.window ∙ ap (λ (p : Ports). window_with c.is_echo.new.window (brought (kept_outlets c.args.self.now.outlets p) c.args.port c.args.moment c.args.came.now)) ports))
+    (frame_behind s c.args.port c.args.event.now.moment c.args.event.now.number c.args.captured.now c.args.came.now c.echoed.new.window c.enter_frame.new.window none c.requires met
+    (c.enter_frame.ensures.window ∙ ap (λ (p : Ports). window_with c.echoed.new.window (brought (kept_outlets c.args.self.now.outlets p) c.args.port c.args.event.now.moment c.args.event.now.number c.args.came.now)) ports))

@@ -15,6 +15,7 @@ complain() {
 # same KIND TEXT OBJECTS: both tell the same lines
 same() {
     python3 -B tests/outputs/json_lines.py "$@" || complain "$1: the objects aren't what the text tells"
+    cat "$3" >>"$folder/all"
 }
 
 # told KIND WORDS..: what the program prints for these words, and with --json besides, tell the same; its status and what it says
@@ -87,7 +88,7 @@ told compared compare --worked "$folder/plain" --by delay -u "$folder/plain/unde
 PYTHONPATH=tests/compare python3 -Bc 'import sys; from compare import write; write(sys.argv[1], [(5, (bytes(60), 100))], "cut")' \
     "$folder/cut.pcap"
 told compared compare "$folder/cut.pcap" "$folder/cut.pcap"
-[ "$(tail -n 3 "$folder/objects")" = '{"line":"cut","received":1,"sent":1}
+[ "$(tail -n 3 "$folder/objects")" = '{"line":"cut records","received":1,"sent":1}
 {"line":"ends cut","side":"sent"}
 {"line":"ends cut","side":"received"}' ] || complain "cut captures are told as '$(tail -n 3 "$folder/objects")'"
 told compared compare --worked "$folder/plain" -u - "$folder/cut.pcap" - -
@@ -106,9 +107,9 @@ write(f"{folder}/seen1.pcap", [(6, at_port(tag(4094)))] + [(5000 + k, at_port(ta
 write(f"{folder}/underlay.pcap", [(5, vxlan(5000)), (5, vxlan(6000))])
 write(f"{folder}/seen.pcap", [(6, vxlan(5000, destination=3)), (6, vxlan(6000)), (6, vxlan(6000))])' "$folder/differs"
 told compared compare --worked "$folder/differs" -u "$folder/differs/seen.pcap" "$folder/differs/seen1.pcap"
-grep -qx '{"count":1,"difference":"tag","line":"difference","place":"p1","received":"4094","received_record":1,"sent":"none","sent_record":1,"where":"untagged"}' \
+grep -qx '{"count":1,"difference":"tag","line":"difference","place":"p1","received_record":1,"received_value":"4094","sent_record":1,"sent_value":"none","where":"untagged"}' \
     "$folder/objects" || complain "a difference of a tag isn't told"
-grep -qx '{"count":1,"difference":"remote","line":"difference","place":"u","received":"192.0.2.3","received_record":1,"sent":"192.0.2.2","sent_record":1,"vni":5000,"where":"vxlan"}' \
+grep -qx '{"count":1,"difference":"remote","line":"difference","place":"u","received_record":1,"received_value":"192.0.2.3","sent_record":1,"sent_value":"192.0.2.2","vni":5000,"where":"vxlan"}' \
     "$folder/objects" || complain "a difference of a remote isn't told"
 grep -qx '{"count":1,"line":"doubled","place":"u"}' "$folder/objects" || complain "a record that came again isn't told"
 grep -qx '{"count":2,"line":"other differences","place":"p1"}' "$folder/objects" || complain "other differences aren't told"
@@ -151,6 +152,9 @@ ln -s /dev/full "$folder/out/decisions.jsonl"
 for file in "$folder/plain"/*; do
     cmp -s "$file" "$folder/out/${file##*/}" || complain "${file##*/} is another where the objects can't be written"
 done
+
+# A key has one meaning and one type over all of that, and stands on the page.
+python3 -B tests/outputs/json_lines.py keys "$folder/all" || complain "keys aren't as the page has them"
 
 # jq reads them: drops by name, as README shows.
 if command -v jq >/dev/null; then

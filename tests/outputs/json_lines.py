@@ -1,9 +1,11 @@
 #!/usr/bin/env python3
-"""Whether texts and their JSON tell the same: json_lines.py decisions TXT JSONL | json_lines.py lines KIND TXT JSON
+"""Whether texts and their JSON tell the same: json_lines.py KIND TXT JSON. Whether each key that stands in objects is one of the
+JSON section of docs/formats/lines.md and has one type: json_lines.py keys JSON..
 
 Each object is read by Python's own reader of JSON, and the line that it tells is written anew by the rules of
 docs/formats/lines.md; it has to be that line of the text. What differs is told, and the status is 1."""
 import json
+import re
 import sys
 
 
@@ -47,17 +49,17 @@ def count(told):
     if kind == "checksum":
         return f"checksum partial {told['count']}"
     if kind == "cut":
-        return f"cut {told['place']} {told['records']}"
+        return f"cut {told['source']} {told['records']}"
     if kind == "unknown":
-        whose = f"{told['kind']} {told['vni']} from {told['address']}" if "vni" in told else "others"
+        whose = f"{told['kind']} {told['vni']} from {told['sender']}" if "vni" in told else "others"
         return f"unknown {whose} {told['count']}"
     if kind == "remote":
         return f"remote {told['remote']} in {told['in']} {told['in_octets']} out {told['out']} {told['out_octets']}"
     span = f"{told['count']} {told['octets']} first {told['first']} last {told['last']}"
-    if "source" not in told:
+    if "source_address" not in told:
         return f"talk others {span}"
     short = f" short {told['short']}" if "short" in told else ""
-    return f"talk {told['segment']} {told['source']} {told['from']} > {told['destination']} {told['to']} {span}{short}"
+    return f"talk {told['segment']} {told['source_address']} {told['from']} > {told['destination_address']} {told['to']} {span}{short}"
 
 
 def entry(told):
@@ -71,13 +73,13 @@ def layer(told):
     part = told["part"]
     if part == "stop":
         return f"stop {told['reason']} {told['name']}" if "reason" in told else f"stop {told['name']}"
-    line = f"{part} {told['place']} {told['length']}"
+    line = f"{part} {told['at']} {told['length']}"
     ways = {
-        "ether": "{source} > {destination}",
+        "ether": "{source_address} > {destination_address}",
         "tag": "{type} vid {vid} pcp {pcp} dei {dei}",
         "type": "{type}",
-        "ip4": "{source} > {destination} ttl {ttl} length {ip_length} protocol {protocol}",
-        "ip6": "{source} > {destination} hop-limit {hop_limit} length {ip_length} next-header {next_header}",
+        "ip4": "{source_address} > {destination_address} ttl {ttl} length {ip_length} protocol {protocol}",
+        "ip6": "{source_address} > {destination_address} hop-limit {hop_limit} length {ip_length} next-header {next_header}",
         "udp": "{source_port} > {destination_port} length {udp_length} checksum {checksum}",
         "vxlan": "vni {vni}",
         "geneve": "vni {vni} options {options}",
@@ -99,9 +101,9 @@ def look(told):
     if kind == "note":
         counted = f" {told['count']}" if "count" in told else ""
         return f"{told['place']}:{counted} {told['note']}"
-    style = "pcapng" if told["kind"] == "pcapng" else f"pcap {told['order']} {told['precision']}"
+    style = "pcapng" if told["capture"] == "pcapng" else f"pcap {told['order']} {told['precision']}"
     noun = "record" if told["records"] == 1 else "records"
-    span = f", first {told['first']}, last {told['last']}" if "first" in told else ""
+    span = f", first {told['first_second']}, last {told['last_second']}" if "first_second" in told else ""
     return f"{told['place']}: {style} ethernet, {told['records']} {noun}{span}"
 
 
@@ -109,13 +111,13 @@ def comparison(told):
     """The line of a comparison."""
     kind = told["line"]
     at = f"{told['place']}: " if "place" in told else ""
-    if kind in ("place", "segment", "no segment"):
-        whose = {"place": told.get("place"), "segment": f"segment {told.get('segment')}"}.get(kind, kind)
+    if kind in ("counts", "segment", "no segment"):
+        whose = {"counts": told.get("place"), "segment": f"segment {told.get('segment')}"}.get(kind, kind)
         counts = f"sent {told['sent']}, received {told['received']}, both {told['both']}"
         return f"{whose}: {counts}, sent alone {told['sent_alone']}, received alone {told['received_alone']}"
     if kind == "no capture":
         return f"{at}no capture"
-    if kind == "cut":
+    if kind == "cut records":
         return f"{at}cut: sent {told['sent']}, received {told['received']}"
     if kind == "ends cut":
         return f"{at}{told['side']}: cut"
@@ -124,7 +126,7 @@ def comparison(told):
         return f"{at}length {told['length']}: {counts}"
     if kind == "difference":
         where = " ".join(str(told[key]) for key in ("where", "vid", "vni") if key in told)
-        what = f"{told['difference']} {told['received']} for {told['sent']}"
+        what = f"{told['difference']} {told['received_value']} for {told['sent_value']}"
         return f"{at}{where}: {what}: {told['count']}, first record {told['received_record']} for {told['sent_record']}"
     if kind == "other differences":
         return f"{at}{kind}: {told['count']}"
@@ -139,7 +141,7 @@ def comparison(told):
             line += f" {told[key]}"
     if "event" in told:
         line += f" event {told['event']}"
-    return line + (f" {told['difference']}" if "difference" in told else "")
+    return line + (f" {told['differs']}" if "differs" in told else "")
 
 
 def whole(way):
@@ -166,7 +168,32 @@ WAYS = {
 }
 
 
+def typed(told, types):
+    """Notes of each key of an object, and of those within it, which types its values have."""
+    for key, value in told.items():
+        types.setdefault(key, set()).update({type(value).__name__} - {"NoneType"})
+        for each in value if isinstance(value, list) else []:
+            typed(each, types)
+
+
+def keys(files):
+    """Looks at the keys of all objects of files."""
+    types = {}
+    for file in files:
+        for line in open(file, encoding="utf-8"):
+            typed(json.loads(line), types)
+    page = open("docs/formats/lines.md", encoding="utf-8").read()
+    section = re.search(r"^## JSON$(.*?)^## ", page, re.M | re.S).group(1)
+    told = set(re.findall(r"\w+", " ".join(re.findall(r"`([^`]*)`", section))))
+    wrong = [f"{key} has the types {sorted(each)}" for key, each in sorted(types.items()) if len(each) != 1]
+    wrong += [f"{key} stands nowhere in docs/formats/lines.md" for key in sorted(set(types) - told)]
+    if wrong or len(types) < 50:
+        sys.exit("\n".join(f"json_lines.py: {line}" for line in wrong or [f"only {len(types)} keys"]))
+
+
 def main():
+    if sys.argv[1] == "keys":
+        return keys(sys.argv[2:])
     kind, text, objects = sys.argv[1:]
     told = []
     for line in open(objects, encoding="utf-8"):

@@ -14,6 +14,7 @@ use timeline::Event;
 
 /// Tells a window of a frame that came in at a port with an event, whose octets without tag are these, if it came to a segment, with
 /// the ports by which it may leave. Where it may leave by none, there is nothing to tell.
+#[inline]
 pub(crate) fn enter_frame(
     window: &mut Window,
     outlets: &mut Outlets,
@@ -36,6 +37,7 @@ pub(crate) fn enter_frame(
 }
 
 /// The same of a frame that a packet at the underlay brought.
+#[inline]
 pub(crate) fn enter_packet(
     window: &mut Window,
     outlets: &mut Outlets,

@@ -7,6 +7,7 @@ use timeline::Tap;
 use wire::ether::{EtherView, Tagging};
 
 /// The number of a place: 0 for the underlay, that of a port from 1.
+#[inline]
 pub(crate) fn place_of(tap: Tap) -> u8
     ensures { result ≡ place_of tap }
 {
@@ -28,6 +29,7 @@ pub(crate) fn tap_at(place: u8) -> Tap
 }
 
 /// A frame without its tag.
+#[inline]
 pub(crate) fn untagged(octets: &[u8]) -> FrameText<'_>
     ensures { result ≡ untagged octets.now }
 {
@@ -41,6 +43,7 @@ pub(crate) fn untagged(octets: &[u8]) -> FrameText<'_>
 }
 
 /// A frame that has no tag to take off.
+#[inline(always)]
 fn as_it_stands(octets: &[u8]) -> FrameText<'_>
     ensures { result ≡ octets.now }
 {

@@ -60,6 +60,7 @@ impl Placed {
     }
 
     /// The run puts the frame of an event at these places.
+    #[inline]
     pub fn put(&mut self, event: &Event, places: &[Place])
         ensures { self.new ≡ put_behind self.old event.now places.now }
     {
@@ -101,6 +102,7 @@ impl Placed {
     }
 
     /// Forgets the earliest frame where there is no room for another.
+    #[inline]
     fn make_room(&mut self)
         ensures puts { self.new ≡ record self.old { puts = with_room self.old.puts } }
         ensures room { length self.new.puts < 4096 }
@@ -111,6 +113,7 @@ impl Placed {
     }
 
     /// Keeps one more, for which there is room.
+    #[inline]
     fn keep(&mut self, put: Put)
         requires { length self.old.puts < 4096 }
         ensures { self.new ≡ record self.old { puts = with_put self.old.puts put } }
@@ -141,6 +144,7 @@ fn is_put_by(put: &Put, origin: Origin, place: u8) -> bool
 }
 
 /// The local ports among some places.
+#[inline]
 fn ports_in(places: &[Place]) -> PlaceSet
     ensures { result ≡ ports_in places.now }
 {

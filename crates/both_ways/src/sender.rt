@@ -49,6 +49,7 @@ fn typed_source(typed: &[u8]) -> Option<Addr>
 }
 
 /// The source address of an IPv4 header (RFC 791, 3.1).
+#[inline]
 fn source4(header: &[u8]) -> Option<Addr>
     ensures { result ≡ source_in Ip4 header.now }
 {
@@ -61,6 +62,7 @@ fn source4(header: &[u8]) -> Option<Addr>
 }
 
 /// The source address of an IPv6 header (RFC 8200, 3).
+#[inline]
 fn source6(header: &[u8]) -> Option<Addr>
     ensures { result ≡ source_in Ip6 header.now }
 {

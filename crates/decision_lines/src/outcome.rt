@@ -35,7 +35,7 @@ impl Line {
     }
 
     /// The same of a local port where so many octets left.
-    #[inline]
+    #[inline(always)]
     pub fn put_local(&mut self, is_first: bool, port: u8, count: usize)
         requires room { length self.old + 77 ≤ 65536 }
         ensures text { self.new ≡ self.old ++ (gap is_first ++ ((codes "p" ++ decimal port) ++ count_text (Ok count))) }
@@ -51,6 +51,7 @@ impl Line {
     }
 
     /// The same of a remote endpoint where so many octets left, or none did for a reason.
+    #[inline(always)]
     pub fn put_remote(
         &mut self,
         is_first: bool,
@@ -71,6 +72,7 @@ impl Line {
     }
 
     /// Puts that a frame or packet is dropped, and why.
+    #[inline(always)]
     pub fn put_drop(&mut self, reason: Reason)
         requires room { length self.old + 24 ≤ 65536 }
         ensures text { self.new ≡ self.old ++ (codes "drop " ++ decimal (number_of reason) ++ codes " " ++ name_of reason) }
@@ -100,6 +102,7 @@ impl Line {
     }
 
     /// Puts how many octets were sent, or the name of the reason why none were.
+    #[inline(always)]
     fn put_count(&mut self, count: Result<usize, Reason>)
         requires room { length self.old + 21 ≤ 65536 }
         ensures text { self.new ≡ self.old ++ count_text count }

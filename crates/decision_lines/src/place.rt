@@ -49,6 +49,7 @@ impl Line {
     }
 
     /// Puts an address: four decimals, or eight groups of four hexadecimal digits.
+    #[inline(always)]
     fn put_addr(&mut self, addr: Addr)
         requires room { length self.old + 48 ≤ 65536 }
         ensures text { self.new ≡ self.old ++ addr_text addr }
@@ -60,6 +61,7 @@ impl Line {
         }
     }
 
+    #[inline(always)]
     fn put_ip4(&mut self, octets: [u8; 4])
         requires room { length self.old + 15 ≤ 65536 }
         ensures text { self.new ≡ self.old ++ ip4_text octets }

@@ -20,6 +20,7 @@ use wire::ether::{Refused, Vid};
 
 impl Line {
     /// Writes the line of a frame or a packet that is dropped, which is the event of this number.
+    #[inline(always)]
     pub fn write_drop(&mut self, number: &Counter, event: &Event, refused: Refused)
         ensures { self.new ≡ line number.now event.now (answer_text None (Decided (refused_as refused))) }
     {

@@ -31,6 +31,7 @@ impl Index {
     }
 
     /// Whether numbers tell places: for so many frames that no run reaches their end.
+    #[inline]
     pub(crate) fn tells_places(&self) -> bool
         ensures { result ≡ (nat_lt self.now.gone 4611686018427387904 && nat_lt self.now.passed 4611686018427387904) }
     {
@@ -38,6 +39,7 @@ impl Index {
     }
 
     /// Notes that the first frame went, which had so many octets.
+    #[inline]
     pub(crate) fn pass(&mut self, length: usize)
         ensures gone { self.new.gone ≡ min (self.old.gone + 1) 18446744073709551615 }
         ensures passed { self.new.passed ≡ min (self.old.passed + length) 18446744073709551615 }
@@ -48,6 +50,7 @@ impl Index {
     }
 
     /// Notes that one more frame is kept behind so many, and has this bucket. Answers the number of the one before it there.
+    #[inline]
     pub(crate) fn enter(&mut self, bucket: usize, count: usize) -> u64
         requires bucket { bucket < length self.old.latest.items }
         requires few { count ≤ 4096 }
@@ -62,6 +65,7 @@ impl Index {
     }
 
     /// How many octets came before those of a frame that is kept behind so many.
+    #[inline]
     pub(crate) fn octets_before(&self, count: usize) -> u64
         ensures { result ≡ min (self.now.passed + count) 18446744073709551615 }
     {

@@ -41,6 +41,7 @@ impl Kept {
     }
 
     /// Whether it came in more than so many nanoseconds before a moment.
+    #[inline]
     pub(crate) fn is_past(&self, within: u64, moment: u64) -> bool
         ensures { result ≡ nat_lt (self.now.moment + within) moment }
     {
@@ -65,6 +66,7 @@ impl Kept {
     }
 
     /// Whether a record is no earlier, and at most so many nanoseconds later.
+    #[inline]
     fn is_soon(&self, within: u64, met: &Record) -> bool
         ensures { result ≡ is_soon within (told met.now) (came_of self.now []) }
     {
@@ -72,6 +74,7 @@ impl Kept {
     }
 
     /// Whether the frame may be met at a record's place, and wasn't yet.
+    #[inline]
     fn is_awaited(&self, met: &Record) -> bool
         ensures { result ≡ is_awaited (told met.now) (came_of self.now []) }
     {

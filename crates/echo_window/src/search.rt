@@ -14,8 +14,37 @@ use octet_row::Row;
 use std::collections::VecDeque;
 
 /// Which of some frames, whose octets stand in a row, a record is an echo of: of those with the bucket of its frame, from the
-/// latest to the earliest, up to one that came in at the record's place, as all before it did: those can't be sent there.
+/// latest to the earliest, up to one that came in at the record's place, as all before it did: those can't be sent there. Mostly
+/// there is none, or the latest is such a one.
+#[inline(always)]
 pub(crate) fn find_linked(
+    frames: &VecDeque<Kept>,
+    row: &Row<MOST_OCTETS>,
+    index: &Index,
+    bucket: usize,
+    within: u64,
+    met: &Record,
+) -> Option<usize>
+    requires whole { lengths frames.now.items ≡ length row.now }
+    requires indexed { IsIndexed index.now.gone index.now.passed frames.now.items row.now index.now.latest.items }
+    requires bucket { bucket ≡ bucket_of (told met.now).frame }
+    requires known { bucket < length index.now.latest.items }
+    ensures { result ≡ position (is_echo_of within (told met.now)) (laid frames.now.items row.now) }
+{
+    let number = index.latest[bucket];
+    if number <= index.gone {
+        return None;
+    }
+    let latest = &frames[(number - index.gone - 1) as usize];
+    if latest.are_all_at(met.place) {
+        return None;
+    }
+    find_among(frames, row, index, bucket, within, met)
+}
+
+/// The same, one after another.
+#[inline(never)]
+fn find_among(
     frames: &VecDeque<Kept>,
     row: &Row<MOST_OCTETS>,
     index: &Index,
@@ -45,6 +74,7 @@ pub(crate) fn find_linked(
 }
 
 /// Whether all frames with a bucket are known to have come in at a place.
+#[inline]
 pub(crate) fn is_alike(
     frames: &VecDeque<Kept>,
     row: &Row<MOST_OCTETS>,
@@ -70,6 +100,7 @@ pub(crate) fn is_alike(
 }
 
 /// The index, where a record is an echo of the frame at it; else what was found behind it.
+#[inline]
 fn if_echo(is_echo: bool, i: usize, found: Option<usize>) -> Option<usize>
     ensures { result ≡ (if is_echo then Some i else found) }
 {
@@ -78,6 +109,7 @@ fn if_echo(is_echo: bool, i: usize, found: Option<usize>) -> Option<usize>
 
 /// Whether a record is an echo of the frame at an index. Most are of the same place, which is seen before their octets are
 /// looked for.
+#[inline]
 fn is_echo_at(
     frames: &VecDeque<Kept>,
     row: &Row<MOST_OCTETS>,

@@ -71,6 +71,7 @@ impl Window {
 
     /// Meets the next record, and forgets what came in too early for an echo at its moment. Where it is an echo: the record that
     /// brought its frame.
+    #[inline(always)]
     pub fn meet(&mut self, met: &Record) -> Option<Origin>
         ensures answer { result ≡ echo_of self.old.within self.old.came (told met.now) }
         ensures behind { self.new ≡ behind_met self.old (told met.now) }
@@ -80,6 +81,7 @@ impl Window {
     }
 
     /// Keeps the next record as a frame that came in, whatever it may be an echo of, and forgets as [`Window::meet`] does.
+    #[inline(always)]
     pub fn enter(&mut self, met: &Record)
         ensures { self.new ≡ behind_entered self.old (told met.now) }
     {
@@ -103,6 +105,7 @@ impl Window {
 
     /// Meets the next record, where all frames that it may be an echo of are recent. Where it is an echo: the record that brought
     /// its frame.
+    #[inline]
     fn meet_recent(&mut self, met: &Record) -> Option<Origin>
         ensures answer { result ≡ echo_of self.old.within self.old.came (told met.now) }
         ensures behind { self.new ≡ record self.old { came = with_met self.old.within self.old.came (told met.now) } }
@@ -124,6 +127,7 @@ impl Window {
     }
 
     /// Whether the earliest frame came in too early for an echo at a moment.
+    #[inline]
     fn begins_past(&self, moment: u64) -> bool
         ensures { result ≡ begins_past self.now.within moment self.now.came }
     {
@@ -131,6 +135,7 @@ impl Window {
     }
 
     /// Which frame a record is an echo of, whose frame has this bucket.
+    #[inline]
     fn search(&self, met: &Record, bucket: usize) -> Option<usize>
         requires bucket { bucket ≡ bucket_of (told met.now).frame }
         requires known { bucket < 16384 }
@@ -198,6 +203,7 @@ impl Window {
     }
 
     /// Whether it knows no frame.
+    #[inline]
     fn is_empty(&self) -> bool
         ensures { result ≡ nat_eq (length self.now.came) 0 }
     {
@@ -205,6 +211,7 @@ impl Window {
     }
 
     /// Whether the frame of a record fits behind those that are kept.
+    #[inline]
     fn has_room(&self, met: &Record) -> bool
         ensures { result ≡ fits (self.now.came ++ first_met (told met.now) ∷ []) }
     {
@@ -241,6 +248,7 @@ impl Window {
     }
 
     /// Forgets the earliest frame.
+    #[inline]
     fn forget_first(&mut self)
         requires { 0 < length self.old.came }
         ensures { self.new ≡ record self.old { came = drop 1 self.old.came } }
@@ -275,6 +283,7 @@ impl Window {
 }
 
 /// Whether so many frames fit, with so many octets and as many more.
+#[inline]
 fn fit(count: usize, octets: usize, more: usize) -> bool
     requires { octets ≤ 4194304 }
     ensures { result ≡ (nat_le count 4096 && nat_le (octets + more) 4194304) }

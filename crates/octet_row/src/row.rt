@@ -76,7 +76,7 @@ impl<const MOST: usize> Row<MOST> {
     }
 
     /// Puts two texts behind what it holds.
-    #[inline]
+    #[inline(always)]
     pub fn put(&mut self, first: &[u8], second: &[u8])
         requires { length self.old + length first.now + length second.now ≤ MOST }
         ensures { self.new ≡ self.old ++ (first.now ++ second.now) }
@@ -91,6 +91,7 @@ impl<const MOST: usize> Row<MOST> {
     }
 
     /// Whether at least as much is forgotten as is held, and as is worth it.
+    #[inline]
     fn is_half_forgotten(&self) -> bool {
         self.forgotten >= self.least_moved && self.forgotten >= self.octets.len() - self.forgotten
     }
@@ -107,14 +108,19 @@ fn close_up(octets: &mut Vec<u8>, count: usize)
     octets.truncate(held - count);
 }
 
-/// Moves the octets from `count` to `held` to the front.
+/// Moves the octets from `count` to `held` to the front. Where they aren't more than those in front of them, they are copied at
+/// once: the library moves what overlaps by 16 octets a turn of a loop.
 fn shift(octets: &mut [u8], count: usize, held: usize)
     requires order { count ≤ held }
     requires whole { held ≡ length octets.old }
     ensures front { take (held - count) octets.new ≡ drop count octets.old }
     ensures size { length octets.new ≡ length octets.old }
 {
-    octets.copy_within(count..held, 0);
+    if held - count > count {
+        return octets.copy_within(count..held, 0);
+    }
+    let (front, rest) = octets.split_at_mut(count);
+    front[..held - count].copy_from_slice(rest);
 }
 
 /// Puts octets behind others where there is room for them.

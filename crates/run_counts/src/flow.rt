@@ -37,6 +37,7 @@ impl Flow {
     }
 
     /// Counts one more, of this size.
+    #[inline]
     fn add(&mut self, size: usize)
         ensures { (sizes : List ℕ) → self.old ≡ flow_of sizes → self.new ≡ flow_of (sizes ++ size ∷ []) }
     {
@@ -93,6 +94,7 @@ impl Flows {
     }
 
     /// Counts one more at a place, of this size.
+    #[inline]
     pub fn add(&mut self, tap: Tap, size: usize)
         ensures { (at : ATap) (sizes : List ℕ) → flow_in self.old at ≡ flow_of sizes
             → flow_in self.new at ≡ flow_of (sizes ++ option_to_list (at_tap at tap size)) }

@@ -105,6 +105,7 @@ impl Watch for RunCounts {
 
     ghost ends = { Ends };
 
+    #[inline]
     fn see(&mut self, _endpoint: &Endpoint, _number: u64, event: &Event, _came: &Forwarding) {
         if let Happening::Record(tap, captured) = &event.happening {
             self.came.add(*tap, captured.octets.len());
@@ -112,6 +113,7 @@ impl Watch for RunCounts {
         }
     }
 
+    #[inline]
     fn hear_decision(&mut self, endpoint: &Endpoint, forwarding: &Forwarding, places: &[Place]) {
         self.count_decision(endpoint, forwarding, places);
     }
@@ -132,6 +134,7 @@ impl Watch for RunCounts {
 
 impl RunCounts {
     /// Counts what leaves of a frame or a packet.
+    #[inline]
     fn count_decision(&mut self, endpoint: &Endpoint, forwarding: &Forwarding, places: &[Place])
         requires there { IsThere (state_of endpoint.now).bridges.settings forwarding.now }
         requires leave { CanLeave (state_of endpoint.now).bridges.settings forwarding.now places.now }
@@ -166,6 +169,7 @@ impl RunCounts {
 }
 
 /// Counts what leaves of a frame at each of these places.
+#[inline]
 fn add_leaving(flows: &mut Flows, endpoint: &Endpoint, came: &Arrival, places: &[Place])
     requires there { IsSome (segment_at (state_of endpoint.now).bridges.settings came.now.vid) }
     requires leave { IsTrue (list_all (can_leave (state_of endpoint.now).bridges.settings came.now.vid) places.now) }
@@ -181,6 +185,7 @@ fn add_leaving(flows: &mut Flows, endpoint: &Endpoint, came: &Arrival, places: &
 }
 
 /// A count of packets whose checksums are left to the card, and of a record more. It ends at 2^64 - 1.
+#[inline]
 fn partial_with(count: u64, tap: Tap, octets: &[u8]) -> u64
     ensures { result ≡ (if is_partial_at tap octets.now then min most (count + 1) else count) }
 {
@@ -191,6 +196,7 @@ fn partial_with(count: u64, tap: Tap, octets: &[u8]) -> u64
 }
 
 /// Where what is sent to a place leaves.
+#[inline]
 fn tap_of(place: Place) -> Tap
     ensures { result ≡ tap_of place }
 {

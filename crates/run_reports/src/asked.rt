@@ -52,6 +52,7 @@ impl<'n, 'a> AskedNames<'n, 'a> {
     }
 
     /// Marks those of the texts that name an event as found, and answers whether one does.
+    #[inline]
     pub fn mark(&self, found: &mut [bool], number: u64, event: &Event) -> bool
         requires { length found.old ≡ length self.now }
         ensures asked { result ≡ is_asked number event.now self.now }
@@ -88,8 +89,22 @@ fn read_names(alloc: Global, texts: &[&str]) -> Result<Vec<Asked>, AllocError>
     Ok(names)
 }
 
-/// Marks the names with this number of this source, or of the run, and answers whether there is one.
+/// Marks the names with this number of this source, or of the run, and answers whether there is one. A run that is asked for none
+/// pays no call for it.
+#[inline(always)]
 fn mark_named(names: &[Asked], found: &mut [bool], source: Option<Source>, number: u64) -> bool
+    requires rising { IsNonDecreasingBy (λ (a : Asked). a.name.number) names.now }
+    requires places { All (λ (a : Asked). a.place < length found.old) names.now }
+    ensures any { result ≡ list_any (is_its source number) names.now }
+    ensures each { (k : ℕ) (b : Bool)
+        → slice_index_or found.new k b ≡ (list_any (is_its_at source number k) names.now || slice_index_or found.old k b) }
+{
+    !names.is_empty() && mark_some(names, found, source, number)
+}
+
+/// The same of one name or more.
+#[inline(never)]
+fn mark_some(names: &[Asked], found: &mut [bool], source: Option<Source>, number: u64) -> bool
     requires rising { IsNonDecreasingBy (λ (a : Asked). a.name.number) names.now }
     requires places { All (λ (a : Asked). a.place < length found.old) names.now }
     ensures any { result ≡ list_any (is_its source number) names.now }

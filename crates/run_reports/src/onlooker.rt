@@ -22,6 +22,7 @@ impl<'n, 'a> Watch for Onlooker<'n, 'a> {
 
     ghost ends = { Ended };
 
+    #[inline]
     fn see(&mut self, endpoint: &Endpoint, number: u64, event: &Event, came: &Forwarding) {
         self.reports.see(endpoint, number, event, came);
         if let Some(counts) = &mut self.counts {
@@ -29,6 +30,7 @@ impl<'n, 'a> Watch for Onlooker<'n, 'a> {
         }
     }
 
+    #[inline]
     fn hear_decision(&mut self, endpoint: &Endpoint, forwarding: &Forwarding, places: &[Place]) {
         if let Some(counts) = &mut self.counts {
             counts.hear_decision(endpoint, forwarding, places);

@@ -134,6 +134,7 @@ impl<'n, 'a> Watch for Reports<'n, 'a> {
 
     ghost ends = { λ old state new. TellsOrLoses (ended_by old state) new };
 
+    #[inline]
     fn see(&mut self, endpoint: &Endpoint, number: u64, event: &Event, _came: &Forwarding) {
         if !self.is_lost && self.tell(endpoint, number, event).is_err() {
             self.is_lost = true;
@@ -164,6 +165,7 @@ impl<'n, 'a> Watch for Reports<'n, 'a> {
 
 impl<'n, 'a> Reports<'n, 'a> {
     /// Tells what is asked for before an event that the run answers.
+    #[inline]
     fn tell(&mut self, endpoint: &Endpoint, number: u64, event: &Event) -> Result<(), AllocError>
         ensures { OnOk result (self.new ≡ seen_by self.old (due (state_of endpoint.now) number event.now)) }
     {
@@ -172,6 +174,7 @@ impl<'n, 'a> Reports<'n, 'a> {
     }
 
     /// Tells the tables before an event of this moment, where it is behind theirs.
+    #[inline]
     fn tell_tables(&mut self, endpoint: &Endpoint, moment: u64) -> Result<(), AllocError>
         ensures { OnOk result (self.new ≡ tables_told self.old (state_of endpoint.now) moment) }
     {
@@ -182,6 +185,7 @@ impl<'n, 'a> Reports<'n, 'a> {
     }
 
     /// Tells why an event comes out as it does, where one asks for it.
+    #[inline]
     fn tell_story(
         &mut self,
         endpoint: &Endpoint,

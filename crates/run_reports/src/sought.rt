@@ -66,6 +66,7 @@ impl Sought {
 
     /// Marks what an event has that is sought, before it comes to an endpoint, and answers whether it is the first of
     /// something. Where nothing is sought that didn't come yet, it isn't looked at.
+    #[inline]
     pub fn meet(&mut self, endpoint: &Endpoint, event: &Event) -> bool
         ensures first { result ≡ is_first self.old.reasons.items self.old.addresses.items (state_of endpoint.now) event.now }
         ensures reasons { self.new.reasons.items ≡ map (reason_met (foreseen (state_of endpoint.now) event.now)) self.old.reasons.items }
@@ -205,6 +206,7 @@ fn address_at(place: usize, address: Mac, tap: Tap) -> SoughtAddress
 }
 
 /// Marks the reasons that an event has, and answers whether it is the first with one.
+#[inline]
 fn meet_reasons(
     reasons: &mut [SoughtReason],
     endpoint: &Endpoint,
@@ -243,6 +245,7 @@ fn meet_open(
 }
 
 /// Whether there is a reason of which no event came yet.
+#[inline]
 fn is_any_open(reasons: &[SoughtReason]) -> bool
     ensures { result ≡ list_any (λ k. not k.is_met) reasons.now }
 {
@@ -265,6 +268,7 @@ fn mark_reasons(reasons: &mut [SoughtReason], causes: &Causes) -> bool
 }
 
 /// Marks the addresses that an event has, and answers whether it is the first with one.
+#[inline]
 fn meet_addresses(addresses: &mut [SoughtAddress], endpoint: &Endpoint, event: &Event) -> bool
     ensures first { result ≡ list_any (is_new_address (passing_of (state_of endpoint.now) event.now.happening)) addresses.old }
     ensures met { addresses.new ≡ map (address_met (passing_of (state_of endpoint.now) event.now.happening)) addresses.old }
@@ -289,6 +293,7 @@ fn meet_away(addresses: &mut [SoughtAddress], endpoint: &Endpoint, event: &Event
 }
 
 /// Whether there is an address of which no event came yet.
+#[inline]
 fn is_any_away(addresses: &[SoughtAddress]) -> bool
     ensures { result ≡ list_any (λ k. not k.is_met) addresses.now }
 {

@@ -14,6 +14,7 @@ use wire::ether::Reason;
 use wire::ip_udp::{Addr, Tunnel};
 
 /// Puts together what leaves of a frame at a place, or tells why nothing does.
+#[inline]
 pub(crate) fn gather(
     leaving: &mut Record,
     head: &mut Head,
@@ -36,6 +37,7 @@ pub(crate) fn gather(
 }
 
 /// The same at a local port.
+#[inline]
 fn gather_local(leaving: &mut Record, endpoint: &Endpoint, came: &Arrival, port: u8)
     requires leave { IsTrue (can_leave (state_of endpoint.now).bridges.settings came.now.vid (Local port)) }
     requires short { length came.now.frame.body ≤ 65549 }
@@ -48,6 +50,7 @@ fn gather_local(leaving: &mut Record, endpoint: &Endpoint, came: &Arrival, port:
 }
 
 /// The same for a remote endpoint.
+#[inline]
 fn gather_remote(
     leaving: &mut Record,
     head: &mut Head,
@@ -70,6 +73,7 @@ fn gather_remote(
 }
 
 /// The octets of a tag, if there is one.
+#[inline]
 fn octets_of(tag: &Option<[u8; 4]>) -> &[u8]
     ensures value { result.now ≡ unwrap_or tag.now [] }
     ensures few { length result.now ≤ 4 }

@@ -6,6 +6,7 @@ use byteorder::{ByteOrder, LittleEndian};
 use decision_lines::Line;
 
 /// Puts a number in two octets.
+#[inline(always)]
 #[tactic(auto, unfolding(crate::specs::Blocks::two))]
 pub(crate) fn put_two(line: &mut Line, number: u16)
     requires room { length line.old + 2 ≤ 65536 }
@@ -18,6 +19,7 @@ pub(crate) fn put_two(line: &mut Line, number: u16)
 }
 
 /// The same in four.
+#[inline(always)]
 #[tactic(auto, unfolding(crate::specs::Blocks::four))]
 pub(crate) fn put_four(line: &mut Line, number: u32)
     requires room { length line.old + 4 ≤ 65536 }
@@ -30,6 +32,7 @@ pub(crate) fn put_four(line: &mut Line, number: u32)
 }
 
 /// The same in eight.
+#[inline(always)]
 #[tactic(auto, unfolding(crate::specs::Blocks::eight))]
 pub(crate) fn put_eight(line: &mut Line, number: u64)
     requires room { length line.old + 8 ≤ 65536 }
@@ -42,7 +45,7 @@ pub(crate) fn put_eight(line: &mut Line, number: u64)
 }
 
 /// The front of a block: its type and its length.
-#[inline]
+#[inline(always)]
 #[tactic(auto, unfolding(crate::specs::Blocks::four))]
 pub(crate) fn block_front(kind: u32, size: u32) -> [u8; 8]
     ensures { result ≡ four kind ++ four size }
@@ -54,7 +57,7 @@ pub(crate) fn block_front(kind: u32, size: u32) -> [u8; 8]
 }
 
 /// What stands in front of a packet's octets, behind the front of its block.
-#[inline]
+#[inline(always)]
 #[tactic(auto, unfolding(crate::specs::Blocks::packet_front, crate::specs::Blocks::four))]
 pub(crate) fn packet_front(interface: u32, moment: u64, captured: u32, original: u32) -> [u8; 20]
     ensures { result ≡ packet_front interface moment captured original }

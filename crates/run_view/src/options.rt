@@ -9,6 +9,7 @@ use decision_lines::Line;
 const ZEROS: [u8; 3] = [0, 0, 0];
 
 /// Puts zeros behind so many octets, up to a multiple of four.
+#[inline(always)]
 #[tactic(auto, unfolding(crate::specs::Blocks::padding))]
 pub(crate) fn put_padding(line: &mut Line, size: usize)
     requires short { size ≤ 262144 }
@@ -21,6 +22,7 @@ pub(crate) fn put_padding(line: &mut Line, size: usize)
 }
 
 /// Puts an option.
+#[inline(always)]
 #[tactic(auto, unfolding(crate::specs::Blocks::option_text))]
 pub(crate) fn put_option(line: &mut Line, code: u16, value: &[u8])
     requires short { length value.now ≤ 65000 }

@@ -102,6 +102,7 @@ impl<W: Output> ViewOutput<W> {
     }
 
     /// Writes the blocks of a frame or a packet that was seen and is dropped.
+    #[inline]
     pub(crate) fn write_drop(&mut self, ports: u8, seen: &Seen, refused: Refused)
         ensures { Tells self.old self.new (text_of (items_of ports seen.now (Decided (refused_as refused)))) }
     {
@@ -127,6 +128,7 @@ impl<W: Output> ViewOutput<W> {
     }
 
     /// Writes the blocks of a frame or a packet that was seen and leaves at these places.
+    #[inline]
     pub(crate) fn write_sent(
         &mut self,
         ports: u8,
@@ -146,6 +148,7 @@ impl<W: Output> ViewOutput<W> {
     }
 
     /// Writes the block of what came, where it leaves at these places.
+    #[inline]
     fn write_came(&mut self, seen: &Seen, endpoint: &Endpoint, came: &Arrival, places: &[Place])
         requires there { IsSome (segment_at (state_of endpoint.now).bridges.settings came.now.vid) }
         requires leave { IsTrue (list_all (can_leave (state_of endpoint.now).bridges.settings came.now.vid) places.now) }
@@ -166,6 +169,7 @@ impl<W: Output> ViewOutput<W> {
     }
 
     /// Writes the blocks of what leaves at each of these places.
+    #[inline]
     fn write_outcomes(
         &mut self,
         ports: u8,
@@ -187,6 +191,7 @@ impl<W: Output> ViewOutput<W> {
     }
 
     /// Writes the block of what leaves at a place, if something does.
+    #[inline]
     fn write_left(
         &mut self,
         ports: u8,
@@ -231,6 +236,7 @@ impl<W: Output> ViewOutput<W> {
 }
 
 /// The interface of a place where a frame leaves.
+#[inline]
 fn interface_at(ports: u8, place: Place) -> u32
     ensures { result ≡ interface_at ports place }
 {
@@ -241,6 +247,7 @@ fn interface_at(ports: u8, place: Place) -> u32
 }
 
 /// Tells what came, as it was seen, with what stands in a line.
+#[inline]
 fn tell_came<W: Output>(teller: &mut Teller<W>, out: &mut Line, line: &Line, seen: &Seen)
     ensures { Tells teller.old teller.new (item_text (came_item seen.now line.now)) }
 {

@@ -50,6 +50,7 @@ impl<'a> Model for Remark<'a> {
 }
 
 /// Clears a line and puts what stands behind so many octets of a packet.
+#[inline(always)]
 #[tactic(auto, unfolding(crate::specs::Blocks::packet_options))]
 pub(crate) fn put_remark(line: &mut Line, size: usize, remark: &Remark)
     requires size { size ≤ 262144 }
@@ -64,7 +65,7 @@ pub(crate) fn put_remark(line: &mut Line, size: usize, remark: &Remark)
 }
 
 /// The options behind a comment: a direction, the number of an event, and their end.
-#[inline]
+#[inline(always)]
 #[tactic(auto, unfolding(crate::specs::Blocks::option_text, crate::specs::Blocks::two, crate::specs::Blocks::four, crate::specs::Blocks::eight, crate::specs::Blocks::padding))]
 fn options_behind(direction: u32, event: u64) -> [u8; 24]
     ensures { result ≡ option_text packet_flags (four direction) ++ (option_text packet_id_option (eight event) ++ end_of_options) }

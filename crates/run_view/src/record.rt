@@ -35,6 +35,7 @@ impl Record {
     }
 
     /// The octets.
+    #[inline(always)]
     pub fn octets(&self) -> &[u8]
         ensures value { result.now ≡ self.now }
         ensures short { length self.now ≤ longest }
@@ -43,6 +44,7 @@ impl Record {
     }
 
     /// Copies octets, no more than a record has at most.
+    #[inline(always)]
     #[tactic(auto, using(std::proofs::lemmas::List::take_min))]
     pub fn copy(&mut self, octets: &[u8])
         ensures { self.new ≡ take longest octets.now }
@@ -52,6 +54,7 @@ impl Record {
     }
 
     /// Puts three texts together.
+    #[inline(always)]
     pub fn gather(&mut self, front: &[u8], middle: &[u8], rest: &[u8])
         requires { length front.now + length middle.now + length rest.now ≤ longest }
         ensures { self.new ≡ front.now ++ (middle.now ++ rest.now) }
@@ -64,6 +67,7 @@ impl Record {
 }
 
 /// Adds octets for which there is room.
+#[inline(always)]
 fn put(out: &mut Vec<u8>, octets: &[u8])
     requires { vec_len out.old + length octets.now ≤ vec_capacity out.old }
     ensures items { out.new.items ≡ out.old.items ++ octets.now }

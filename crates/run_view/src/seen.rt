@@ -43,6 +43,7 @@ impl Seen {
     }
 
     /// Keeps the event of this number, in a run on so many ports and with these changes.
+    #[inline]
     pub(crate) fn keep(&mut self, ports: u8, changes: &[TimedChange], number: u64, event: &Event)
         ensures { self.new ≡ seen_of ports changes.now number event.now }
     {
@@ -55,6 +56,7 @@ impl Seen {
 }
 
 /// How many octets the frame of an event had.
+#[inline]
 fn original_of(event: &Event) -> u32
     ensures { result ≡ original_of event.now.happening }
 {
@@ -65,6 +67,7 @@ fn original_of(event: &Event) -> u32
 }
 
 /// Those of them that were captured.
+#[inline]
 fn octets_of<'a>(event: &Event<'a>) -> &'a [u8]
     ensures { result.now ≡ octets_of event.now.happening }
 {
@@ -75,6 +78,7 @@ fn octets_of<'a>(event: &Event<'a>) -> &'a [u8]
 }
 
 /// The interface of a source.
+#[inline]
 fn interface_of(ports: u8, source: Source) -> u32
     ensures { result ≡ interface_of ports source }
 {
@@ -85,6 +89,7 @@ fn interface_of(ports: u8, source: Source) -> u32
 }
 
 /// The segment that an event names as a change.
+#[inline]
 fn named_in(changes: &[TimedChange], event: &Event) -> Option<Vid>
     ensures { result ≡ named_in changes.now event.now }
 {

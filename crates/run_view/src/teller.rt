@@ -56,6 +56,7 @@ impl<W: Output> Teller<W> {
     }
 
     /// Tells the block of this type whose body stands in a line.
+    #[inline]
     pub(crate) fn tell_block(&mut self, kind: u32, body: &mut Line)
         requires room { length body.old ≤ 65532 }
         ensures { Tells self.old self.new (block_text (block_of kind body.old)) }
@@ -66,6 +67,7 @@ impl<W: Output> Teller<W> {
     }
 
     /// Tells a packet and what is said of it, which is put together in a line.
+    #[inline]
     pub(crate) fn tell_packet(&mut self, packet: &Packet, remark: &Remark, line: &mut Line)
         requires size { length packet.now.octets ≤ longest }
         requires short { length remark.now.comment ≤ 65000 }
@@ -77,6 +79,7 @@ impl<W: Output> Teller<W> {
     }
 
     /// Tells a packet, behind whose octets stands what is in a line.
+    #[inline]
     fn tell_behind(&mut self, packet: &Packet, line: &mut Line)
         requires size { length packet.now.octets ≤ longest }
         requires room { length line.old ≤ 65532 }
@@ -93,6 +96,7 @@ impl<W: Output> Teller<W> {
     }
 
     /// Tells three texts, one behind another, of which the first two are short.
+    #[inline]
     fn tell(&mut self, front: &[u8], head: &[u8], body: &[u8])
         requires { length front.now + length head.now ≤ 102 }
         ensures { Tells self.old self.new (front.now ++ (head.now ++ body.now)) }

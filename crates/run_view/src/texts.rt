@@ -24,6 +24,7 @@ use wire::ether::{Refused, Vid};
 const LONGEST_COMMENT: usize = 65_000;
 
 /// As much of a line as a comment tells.
+#[inline(always)]
 #[tactic(auto, using(std::proofs::lemmas::List::take_min), unfolding(crate::specs::Blocks::comment_of))]
 pub(crate) fn comment(line: &Line) -> &[u8]
     ensures text { result.now ≡ comment_of line.now }
@@ -34,6 +35,7 @@ pub(crate) fn comment(line: &Line) -> &[u8]
 }
 
 /// Puts the line of a frame or a packet that is dropped.
+#[inline]
 pub(crate) fn put_drop(line: &mut Line, number: &mut Counter, origin: &Origin, refused: Refused)
     ensures { line.new ≡ told_text origin.now None (Decided (refused_as refused)) }
 {
@@ -56,6 +58,7 @@ pub(crate) fn put_reply(
 }
 
 /// Puts the line of what leaves of a frame at each of these places, as far as a comment tells it.
+#[inline]
 pub(crate) fn put_sent(
     line: &mut Line,
     number: &mut Counter,
@@ -75,6 +78,7 @@ pub(crate) fn put_sent(
 }
 
 /// Puts what comes of each place, with a space between two, as far as a comment tells it.
+#[inline]
 fn put_places(line: &mut Line, endpoint: &Endpoint, came: &Arrival, places: &[Place])
     requires there { IsSome (segment_at (state_of endpoint.now).bridges.settings came.now.vid) }
     requires leave { IsTrue (list_all (can_leave (state_of endpoint.now).bridges.settings came.now.vid) places.now) }
@@ -92,6 +96,7 @@ fn put_places(line: &mut Line, endpoint: &Endpoint, came: &Arrival, places: &[Pl
 }
 
 /// Puts what comes of a place, behind a space where it isn't the first, unless a comment tells no more.
+#[inline]
 fn put_place(
     line: &mut Line,
     endpoint: &Endpoint,
@@ -114,6 +119,7 @@ fn put_place(
 }
 
 /// Puts what left at a place in an event.
+#[inline]
 pub(crate) fn put_left(
     line: &mut Line,
     number: &mut Counter,
@@ -148,6 +154,7 @@ pub(crate) fn put_cut(line: &mut Line, cut: &Cut)
 }
 
 /// Clears a line and puts where an event stands, and a segment.
+#[inline(always)]
 fn put_front(line: &mut Line, number: &mut Counter, origin: &Origin, segment: Option<Vid>)
     ensures text { line.new ≡ front_text origin.now.event origin.now.moment origin.now.source origin.now.number
         ++ (segment_text segment ++ codes " ") }
@@ -158,6 +165,7 @@ fn put_front(line: &mut Line, number: &mut Counter, origin: &Origin, segment: Op
 }
 
 /// An event that stands there, of which nothing else is known.
+#[inline(always)]
 fn event_at(origin: &Origin) -> Event<'static>
     ensures moment { result.moment ≡ origin.now.moment }
     ensures source { source_of result.happening ≡ origin.now.source }

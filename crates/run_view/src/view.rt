@@ -125,6 +125,7 @@ impl<'c, W: Output> Watch for View<'c, W> {
         self.expect(number, event);
     }
 
+    #[inline]
     fn hear_decision(&mut self, endpoint: &Endpoint, forwarding: &Forwarding, places: &[Place]) {
         self.write_decision(endpoint, forwarding, places);
     }
@@ -145,6 +146,7 @@ impl<'c, W: Output> Watch for View<'c, W> {
 
 impl<'c, W: Output> View<'c, W> {
     /// Keeps an event, behind the head.
+    #[inline]
     fn expect(&mut self, number: u64, event: &Event)
         ensures shows { Shows self.old [] self.new }
         ensures seen { self.new.seen ≡ seen_of self.old.ports self.old.changes number event.now }
@@ -155,6 +157,7 @@ impl<'c, W: Output> View<'c, W> {
     }
 
     /// Writes the head, where it isn't written yet.
+    #[inline]
     fn begin(&mut self)
         ensures shows { Shows self.old [] self.new }
         ensures seen { self.new.seen ≡ self.old.seen }
@@ -178,6 +181,7 @@ impl<'c, W: Output> View<'c, W> {
     }
 
     /// Writes the blocks of a frame or a packet that was taken.
+    #[inline]
     fn write_decision(&mut self, endpoint: &Endpoint, forwarding: &Forwarding, places: &[Place])
         requires there { IsThere (state_of endpoint.now).bridges.settings forwarding.now }
         requires short { IsShortFrame forwarding.now }

@@ -16,6 +16,7 @@ use stream_run::{Job, RunOutputs, Sieve, StreamFault, Watch, run};
 type Unwritten = StdOutput<io::Sink>;
 
 /// Runs on captures of which nothing is read yet, with the settings and the changes that the texts mean. Someone looks on.
+#[inline(never)]
 pub(crate) fn run_into_nothing<'a, F: Read + Drop, I: Read + Drop, S: Sieve, T: Watch>(
     alloc: Global,
     job: Job<'_>,

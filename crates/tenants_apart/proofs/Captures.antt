@@ -1,6 +1,9 @@
 -- Two runs over captures that agree, source by source, in a segment's own.
 use Rattle.std.proofs.Common.{◌≡◌, ◌∙◌, refl, sym, ap, ℕ, Bool, true, false, cond, List, [], ◌∷◌, ◌++◌, map, filter}
 use Rattle.std.specs.List.{AllByRecursion}
+use Rattle.std.proofs.lemmas.List.{map-append}
+use Rattle.std.proofs.lemmas.List.Elements.{filter-append}
+use Rattle.pcap.specs.Record.{Record}
 use Rattle.timeline.specs.Timeline.{Timeline}
 use Rattle.timeline.specs.declared.source.Source.{Source}
 use Rattle.timeline.specs.declared.source.Source.TheVariants as sources
@@ -20,61 +23,71 @@ use Rattle.noninterference.proofs.Asked.{changes-told}
 use Rattle.noninterference.proofs.Lists.{filter-both}
 use Rattle.noninterference.proofs.Merging.{coming-rises, coming-turns}
 use Rattle.noninterference.proofs.Turns.{Before, InTurn, same_by_source, turn-only}
-use Rattle.tenants_apart.specs.Own.{names_or_concerns, own_events, room_reply, room_replies}
+use Rattle.tenants_apart.specs.Own.{Needs, everything, IsEnough, names_or_concerns, own_events, room_reply, room_replies}
 use Rattle.tenants_apart.specs.Texts.{TellAlike, own_coming, replies_of, as_changed}
 use Rattle.tenants_apart.proofs.Earlier.{events-follow, replies-follow}
+use Rattle.tenants_apart.proofs.Enough.{enough-for}
 use Rattle.tenants_apart.proofs.Events.{leaving-alike, lines-alike}
 use Rattle.tenants_apart.proofs.Told.{part-told}
 
 -- ---- its own events stand in the same order
 
-all-own : (P : Event → Type 0) (vid : ℕ) (S : Settings) (es : List Event) → AllByRecursion P es → AllByRecursion P (own_events vid S es)
-all-own P vid S [] h = tt
-all-own P vid S (e ∷ es) h = by (names_or_concerns vid S e.input) (all-own P vid (settings_after_input S e.input) es h.1)
+all-own : (P : Event → Type 0) (vid : ℕ) (needs : Needs) (S : Settings) (es : List Event) → AllByRecursion P es → AllByRecursion P (own_events vid needs S es)
+all-own P vid needs S [] h = tt
+all-own P vid needs S (e ∷ es) h = by (names_or_concerns vid needs S e.input) (all-own P vid needs (settings_after_input S e.input) es h.1)
   where
-    by : (b : Bool) → AllByRecursion P (own_events vid (settings_after_input S e.input) es)
-        → AllByRecursion P (cond b (e ∷ own_events vid (settings_after_input S e.input) es) (own_events vid (settings_after_input S e.input) es))
+    by : (b : Bool) → AllByRecursion P (own_events vid needs (settings_after_input S e.input) es)
+        → AllByRecursion P (cond b (e ∷ own_events vid needs (settings_after_input S e.input) es) (own_events vid needs (settings_after_input S e.input) es))
     by true rest = (h.0, rest)
     by false rest = rest
 
-pub turn-own : (R : Event → Event → Type 0) (vid : ℕ) (S : Settings) (es : List Event) → InTurn R es → InTurn R (own_events vid S es)
-turn-own R vid S [] h = tt
-turn-own R vid S (e ∷ es) h = by (names_or_concerns vid S e.input) (turn-own R vid (settings_after_input S e.input) es h.1)
+pub turn-own : (R : Event → Event → Type 0) (vid : ℕ) (needs : Needs) (S : Settings) (es : List Event) → InTurn R es → InTurn R (own_events vid needs S es)
+turn-own R vid needs S [] h = tt
+turn-own R vid needs S (e ∷ es) h = by (names_or_concerns vid needs S e.input) (turn-own R vid needs (settings_after_input S e.input) es h.1)
   where
-    by : (b : Bool) → InTurn R (own_events vid (settings_after_input S e.input) es)
-        → InTurn R (cond b (e ∷ own_events vid (settings_after_input S e.input) es) (own_events vid (settings_after_input S e.input) es))
-    by true rest = (all-own (R e) vid (settings_after_input S e.input) es h.0, rest)
+    by : (b : Bool) → InTurn R (own_events vid needs (settings_after_input S e.input) es)
+        → InTurn R (cond b (e ∷ own_events vid needs (settings_after_input S e.input) es) (own_events vid needs (settings_after_input S e.input) es))
+    by true rest = (all-own (R e) vid needs (settings_after_input S e.input) es h.0, rest)
     by false rest = rest
 
 -- ---- two runs
 
--- of an output the records that leave in the segment
+-- the records of an output
+abbrev pub records_of : Tap → List Departure → List Record
+records_of output ds = map (λ (d : Departure). record_of d.sending) (filter (λ d. leaves_at output d.sending) ds)
+
+pub records-append : (output : Tap) (ds es : List Departure) → records_of output (ds ++ es) ≡ records_of output ds ++ records_of output es
+records-append output ds es =
+    ap (map (λ (d : Departure). record_of d.sending)) (filter-append (λ (d : Departure). leaves_at output d.sending) ds es)
+    ∙ map-append (λ (d : Departure). record_of d.sending) (filter (λ d. leaves_at output d.sending) ds) (filter (λ d. leaves_at output d.sending) es)
+
+-- of those the records that leave in the segment
 pub records_by : (vid : ℕ) (output : Tap) (rs : List Row) → map (λ (d : Departure). record_of d.sending) (filter (λ d. leaves_at output d.sending) (departures_in vid rs)) ≡ records_in vid output (departures rs)
 records_by vid output rs =
     ap (map (λ (d : Departure). record_of d.sending)) (filter-both (λ (d : Departure). leaves_at output d.sending) (λ (d : Departure). is_segment vid d.segment) (departures rs))
 
-rises : (s : Told) (x : Inputs) (l : Timeline) (o : Outputs) → IsRunOf s x l o → IsRising 0 (coming x l)
+pub rises : (s : Told) (x : Inputs) (l : Timeline) (o : Outputs) → IsRunOf s x l o → IsRising 0 (coming x l)
 rises s x l o is = coming-rises (changes_of x) (map (λ c. c.at) x.changes) x.ports x.underlay l is.read
 
-turns : (vid : ℕ) (s : Told) (x : Inputs) (l : Timeline) (o : Outputs) → IsRunOf s x l o → InTurn Before (own_events vid (settings_told s) (coming x l))
-turns vid s x l o is =
-    turn-own Before vid (settings_told s) (coming x l) (coming-turns (changes_of x) (map (λ c. c.at) x.changes) x.ports x.underlay l is.read)
+pub turns : (vid : ℕ) (needs : Needs) (s : Told) (x : Inputs) (l : Timeline) (o : Outputs) → IsRunOf s x l o → InTurn Before (own_events vid needs (settings_told s) (coming x l))
+turns vid needs s x l o is =
+    turn-own Before vid needs (settings_told s) (coming x l) (coming-turns (changes_of x) (map (λ c. c.at) x.changes) x.ports x.underlay l is.read)
 
-module _ (vid : ℕ) (s t : Told) (x y : Inputs) (l m : Timeline) (o p : Outputs) (is : IsRunOf s x l o) (other : IsRunOf t y m p)
-    (told : TellAlike vid s t) (same : (source : Source) → own_coming vid s x l source ≡ own_coming vid t y m source) (replies : replies_of vid s x l ≡ replies_of vid t y m) where
+module _ (vid : ℕ) (needs : Needs) (s t : Told) (x y : Inputs) (l m : Timeline) (o p : Outputs) (is : IsRunOf s x l o) (other : IsRunOf t y m p)
+    (enough : IsEnough vid needs (settings_told s) (coming x l)) (told : TellAlike vid needs s t) (same : (source : Source) → own_coming vid needs s x l source ≡ own_coming vid needs t y m source) (replies : replies_of vid s x l ≡ replies_of vid t y m) where
   -- its own events are the same in both
-  own-same : own_events vid (settings_told s) (coming x l) ≡ own_events vid (settings_told t) (coming y m)
-  own-same = same_by_source (own_events vid (settings_told s) (coming x l)) (own_events vid (settings_told t) (coming y m)) (turns vid s x l o is) (turns vid t y m p other) same
+  own-same : own_events vid needs (settings_told s) (coming x l) ≡ own_events vid needs (settings_told t) (coming y m)
+  own-same = same_by_source (own_events vid needs (settings_told s) (coming x l)) (own_events vid needs (settings_told t) (coming y m)) (turns vid needs s x l o is) (turns vid needs t y m p other) same
 
   pub records-alike : (output : Tap) → records_in vid output (departures (rows_of s x l)) ≡ records_in vid output (departures (rows_of t y m))
   records-alike output =
       sym (records_by vid output (rows_of s x l))
       ∙ ap (λ ds. map (λ (d : Departure). record_of d.sending) (filter (λ d. leaves_at output d.sending) ds))
-      (leaving-alike vid (settings_told s) (settings_told t) (coming x l) (coming y m) (rises s x l o is) (rises t y m p other) (part-told vid s t told) own-same replies)
+      (leaving-alike vid needs (settings_told s) (settings_told t) (coming x l) (coming y m) (rises s x l o is) (rises t y m p other) enough (part-told vid needs s t told) own-same replies)
       ∙ records_by vid output (rows_of t y m)
 
   pub told-alike : lines_in vid (rows_of s x l) ≡ lines_in vid (rows_of t y m)
-  told-alike = lines-alike vid (settings_told s) (settings_told t) (coming x l) (coming y m) (rises s x l o is) (rises t y m p other) (part-told vid s t told) own-same replies
+  told-alike = lines-alike vid needs (settings_told s) (settings_told t) (coming x l) (coming y m) (rises s x l o is) (rises t y m p other) enough (part-told vid needs s t told) own-same replies
 
 -- ---- of all that comes, the changes tell what is answered to changes
 
@@ -102,15 +115,15 @@ module _ (vid : ℕ) (s : Told) (x y : Inputs) (l m : Timeline) (o p : Outputs) 
   concerning-same : only vid (opened (settings_told s)) (coming x l) ≡ only vid (opened (settings_told s)) (coming y m)
   concerning-same = same_by_source (only vid (opened (settings_told s)) (coming x l)) (only vid (opened (settings_told s)) (coming y m)) (turns-concerning x l o is) (turns-concerning y m p other) same
 
-  pub sources-follow : (source : Source) → own_coming vid s x l source ≡ own_coming vid s y m source
-  sources-follow source = ap (from_source source) (events-follow vid (settings_told s) (coming x l) (coming y m) (rises s x l o is) (rises s y m p other) concerning-same)
+  pub sources-follow : (needs : Needs) (source : Source) → own_coming vid needs s x l source ≡ own_coming vid needs s y m source
+  sources-follow needs source = ap (from_source source) (events-follow vid needs (settings_told s) (coming x l) (coming y m) (rises s x l o is) (rises s y m p other) concerning-same)
 
   pub answers-follow : replies_of vid s x l ≡ replies_of vid s y m
-  answers-follow = replies-follow vid (settings_told s) (coming x l) (coming y m) (rises s x l o is) (rises s y m p other) concerning-same
+  answers-follow = replies-follow vid everything (settings_told s) (coming x l) (coming y m) (rises s x l o is) (rises s y m p other) concerning-same
 
   -- what `noninterference::laws::captures` says
   pub records-follow : (output : Tap) → records_in vid output (departures (rows_of s x l)) ≡ records_in vid output (departures (rows_of s y m))
-  records-follow = records-alike vid s s x y l m o p is other (record { underlay = refl; ports = refl; segment = refl }) sources-follow answers-follow
+  records-follow = records-alike vid everything s s x y l m o p is other (enough-for vid (settings_told s) (coming x l)) (record { shared = refl; ports = λ port needed. refl; segment = refl }) (sources-follow everything) answers-follow
 
   pub told-follow : lines_in vid (rows_of s x l) ≡ lines_in vid (rows_of s y m)
-  told-follow = told-alike vid s s x y l m o p is other (record { underlay = refl; ports = refl; segment = refl }) sources-follow answers-follow
+  told-follow = told-alike vid everything s s x y l m o p is other (enough-for vid (settings_told s) (coming x l)) (record { shared = refl; ports = λ port needed. refl; segment = refl }) (sources-follow everything) answers-follow

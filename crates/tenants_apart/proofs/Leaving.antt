@@ -84,7 +84,7 @@ open-toward c from (Some to) = open-known c from to
 abbrev LeavesWell : Settings → ℕ → Decision → Type 0
 LeavesWell S t d = AllByRecursion (λ (x : Departure). LeavesAsText S x.segment x.sending.place x.sending.octets) (map (departure d.segment) (sendings_of t d.outcomes))
 
-members-of : (b : Option BridgeSettings) (o : Option Segment) (m : Option Members) (s : SegmentSettings) → option_and_then (λ bridge. option_and_then (λ segment. option_map (λ members. joined bridge segment members) m) o) b ≡ Some s → m ≡ Some s.members
+pub members-of : (b : Option BridgeSettings) (o : Option Segment) (m : Option Members) (s : SegmentSettings) → option_and_then (λ bridge. option_and_then (λ segment. option_map (λ members. joined bridge segment members) m) o) b ≡ Some s → m ≡ Some s.members
 members-of None o m s h = absurd cc
 members-of (Some b) None m s h = absurd cc
 members-of (Some b) (Some g) None s h = absurd cc

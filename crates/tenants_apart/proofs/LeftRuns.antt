@@ -1,14 +1,12 @@
 -- What the outputs of a run over streams hold, and two runs of which either may have stopped.
-use Rattle.std.proofs.Common.{◌≡◌, ◌∙◌, refl, sym, ap, subst, ℕ, ◌==◌, Bool, true, false, cond, List, [], ◌∷◌, ◌++◌, map, filter, length, take, drop, Result, Ok, Err, inl, inr}
+use Rattle.std.proofs.Common.{◌≡◌, ◌∙◌, refl, sym, ap, subst, ℕ, ◌==◌, Bool, true, false, cond, List, [], ◌∷◌, ◌++◌, map, length, take, drop, Ok, Err, inl, inr}
 use Rattle.std.specs.Prelude.{◌⊎◌}
 use Rattle.std.proofs.lemmas.List.{map-append, take-append-drop, append-nil}
-use Rattle.std.proofs.lemmas.List.Elements.{filter-append}
-use Rattle.pcap.specs.Record.{Record}
 use Rattle.pcap.specs.declared.text.record.RecordFault.{RecordFault}
 use Rattle.timeline.specs.Events.{all_events}
 use Rattle.timeline.specs.Faults.{faults_of}
 use Rattle.timeline.specs.Inputs.{inputs, opened_captures}
-use Rattle.timeline.specs.Order.{IsRising, merged}
+use Rattle.timeline.specs.Order.{IsRising}
 use Rattle.timeline.specs.Timeline.{Timeline, told, if_faultless}
 use Rattle.timeline.specs.declared.event.Event.{Event as Happens}
 use Rattle.timeline.specs.declared.fault.TimelineFault.{TimelineFault}
@@ -21,8 +19,6 @@ use Rattle.endpoint_core.specs.Opened.{settings_told}
 use Rattle.endpoint_core.specs.Event as event
 use Rattle.capture_run.specs.Among.{by_timeline_among, outputs_among, run_among}
 use Rattle.capture_run.specs.Outputs.{Outputs, event_of}
-use Rattle.capture_run.specs.Sendings.{record_of}
-use Rattle.capture_run.specs.declared.fault.RunFault.{RunFault}
 use Rattle.capture_run.specs.declared.fault.RunFault.TheVariants as faults
 use Rattle.capture_run.proofs.Among.{all_outputs}
 use Rattle.capture_run.proofs.Growing.{rising_events}
@@ -32,14 +28,14 @@ use Rattle.stream_run.specs.Sieved.{all_taken}
 use Rattle.stream_run.specs.Stage.{Stage, Nothing, Events, Everything, Drains, StandAt, no_texts}
 use Rattle.stream_run.specs.declared.fault.StreamFault.TheVariants as stream
 use Rattle.noninterference.specs.Coming.{Inputs, changes_of, coming}
-use Rattle.noninterference.specs.Leaving.{Row, rows_of, Departure, departures, departures_in, lines_in, leaves_at, records_in, capture_at}
+use Rattle.noninterference.specs.Leaving.{rows_of, Departure, departures, departures_in, lines_in, records_in, capture_at}
 use Rattle.noninterference.proofs.Merging.{merged-rises, merged-turns}
 use Rattle.noninterference.proofs.Octets.{texts-captures, texts-decisions}
 use Rattle.noninterference.proofs.Turns.{Before, same_by_source}
-use Rattle.tenants_apart.specs.Own.{own_events, room_replies, IsFrontOf, IsOneFront}
+use Rattle.tenants_apart.specs.Own.{Needs, IsEnough, own_events, room_replies, IsFrontOf, IsOneFront}
 use Rattle.tenants_apart.specs.Runs.{whole, AreFirst, Hold}
 use Rattle.tenants_apart.specs.Texts.{TellAlike, own_coming, replies_of}
-use Rattle.tenants_apart.proofs.Captures.{records_by, turn-own}
+use Rattle.tenants_apart.proofs.Captures.{records_of, records-append, records_by, turn-own}
 use Rattle.tenants_apart.proofs.Stopped.{leaving-stopped, lines-stopped}
 use Rattle.tenants_apart.proofs.Told.{part-told}
 
@@ -112,15 +108,6 @@ left-at_a_read s x old new place h = by_stage s x old new h.stage h.stands
 
 -- ---- two runs
 
--- the records of an output
-abbrev records_of : Tap → List Departure → List Record
-records_of output ds = map (λ (d : Departure). record_of d.sending) (filter (λ d. leaves_at output d.sending) ds)
-
-records-append : (output : Tap) (ds es : List Departure) → records_of output (ds ++ es) ≡ records_of output ds ++ records_of output es
-records-append output ds es =
-    ap (map (λ (d : Departure). record_of d.sending)) (filter-append (λ (d : Departure). leaves_at output d.sending) ds es)
-    ∙ map-append (λ (d : Departure). record_of d.sending) (filter (λ d. leaves_at output d.sending) ds) (filter (λ d. leaves_at output d.sending) es)
-
 records-front : (output : Tap) (ds es : List Departure) → IsFrontOf ds es → IsFrontOf (records_of output ds) (records_of output es)
 records-front output ds es front = (records_of output front.0, sym (records-append output ds front.0) ∙ ap (records_of output) front.1)
 
@@ -138,25 +125,29 @@ whole-coming x l first = sym (map-append (event_of (changes_of x)) l.events firs
 coming-rising : (x : Inputs) (l : Timeline) (first : AreFirst l x) → event.IsRising 0 (coming x l ++ behind x l first)
 coming-rising x l first = subst (event.IsRising 0) (sym (whole-coming x l first)) (merged-rises (changes_of x) (map (λ (c : TimedChange). c.at) x.changes) x.ports x.underlay)
 
-module _ (vid : ℕ) (s t : Told) (x y : Inputs) (l m : Timeline) (first : AreFirst l x) (other : AreFirst m y) (alike : TellAlike vid s t)
-    (same : (source : Source) → own_coming vid s x (whole x) source ≡ own_coming vid t y (whole y) source) (replies : replies_of vid s x (whole x) ≡ replies_of vid t y (whole y)) where
-  own-same : own_events vid (settings_told s) (coming x (whole x)) ≡ own_events vid (settings_told t) (coming y (whole y))
+module _ (vid : ℕ) (needs : Needs) (s t : Told) (x y : Inputs) (l m : Timeline) (first : AreFirst l x) (other : AreFirst m y)
+    (enough : IsEnough vid needs (settings_told s) (coming x (whole x))) (alike : TellAlike vid needs s t)
+    (same : (source : Source) → own_coming vid needs s x (whole x) source ≡ own_coming vid needs t y (whole y) source) (replies : replies_of vid s x (whole x) ≡ replies_of vid t y (whole y)) where
+  own-same : own_events vid needs (settings_told s) (coming x (whole x)) ≡ own_events vid needs (settings_told t) (coming y (whole y))
   own-same =
-      same_by_source (own_events vid (settings_told s) (coming x (whole x))) (own_events vid (settings_told t) (coming y (whole y)))
-      (turn-own Before vid (settings_told s) (coming x (whole x)) (merged-turns (changes_of x) (map (λ (c : TimedChange). c.at) x.changes) x.ports x.underlay))
-      (turn-own Before vid (settings_told t) (coming y (whole y)) (merged-turns (changes_of y) (map (λ (c : TimedChange). c.at) y.changes) y.ports y.underlay))
+      same_by_source (own_events vid needs (settings_told s) (coming x (whole x))) (own_events vid needs (settings_told t) (coming y (whole y)))
+      (turn-own Before vid needs (settings_told s) (coming x (whole x)) (merged-turns (changes_of x) (map (λ (c : TimedChange). c.at) x.changes) x.ports x.underlay))
+      (turn-own Before vid needs (settings_told t) (coming y (whole y)) (merged-turns (changes_of y) (map (λ (c : TimedChange). c.at) y.changes) y.ports y.underlay))
       same
 
-  events : own_events vid (settings_told s) (coming x l ++ behind x l first) ≡ own_events vid (settings_told t) (coming y m ++ behind y m other)
-  events = ap (own_events vid (settings_told s)) (whole-coming x l first) ∙ own-same ∙ sym (ap (own_events vid (settings_told t)) (whole-coming y m other))
+  events : own_events vid needs (settings_told s) (coming x l ++ behind x l first) ≡ own_events vid needs (settings_told t) (coming y m ++ behind y m other)
+  events = ap (own_events vid needs (settings_told s)) (whole-coming x l first) ∙ own-same ∙ sym (ap (own_events vid needs (settings_told t)) (whole-coming y m other))
 
   answers : room_replies vid (settings_told s) (coming x l ++ behind x l first) ≡ room_replies vid (settings_told t) (coming y m ++ behind y m other)
   answers = ap (room_replies vid (settings_told s)) (whole-coming x l first) ∙ replies ∙ sym (ap (room_replies vid (settings_told t)) (whole-coming y m other))
 
+  enough_first : IsEnough vid needs (settings_told s) (coming x l ++ behind x l first)
+  enough_first = subst (IsEnough vid needs (settings_told s)) (sym (whole-coming x l first)) enough
+
   leaving : IsOneFront (departures_in vid (rows_of s x l)) (departures_in vid (rows_of t y m))
   leaving =
-      leaving-stopped vid (settings_told s) (settings_told t) (coming x l) (behind x l first) (coming y m) (behind y m other)
-      (coming-rising x l first) (coming-rising y m other) (part-told vid s t alike) events answers
+      leaving-stopped vid needs (settings_told s) (settings_told t) (coming x l) (behind x l first) (coming y m) (behind y m other)
+      (coming-rising x l first) (coming-rising y m other) enough_first (part-told vid needs s t alike) events answers
 
   pub records-fronts : (output : Tap) → IsOneFront (records_in vid output (departures (rows_of s x l))) (records_in vid output (departures (rows_of t y m)))
   records-fronts output =
@@ -166,5 +157,5 @@ module _ (vid : ℕ) (s t : Told) (x y : Inputs) (l m : Timeline) (first : AreFi
 
   pub lines-fronts : IsOneFront (lines_in vid (rows_of s x l)) (lines_in vid (rows_of t y m))
   lines-fronts =
-      lines-stopped vid (settings_told s) (settings_told t) (coming x l) (behind x l first) (coming y m) (behind y m other)
-      (coming-rising x l first) (coming-rising y m other) (part-told vid s t alike) events answers
+      lines-stopped vid needs (settings_told s) (settings_told t) (coming x l) (behind x l first) (coming y m) (behind y m other)
+      (coming-rising x l first) (coming-rising y m other) enough_first (part-told vid needs s t alike) events answers

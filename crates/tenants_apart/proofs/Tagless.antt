@@ -1,12 +1,12 @@
 -- What comes to a segment that takes no frame whose body begins with a tag begins with none.
-use Rattle.std.proofs.Common.{◌≡◌, ℕ, Bool, true, false, ◌&&◌, List, length, drop, Option, Some, None, Result, Ok, Err, refl, sym, ap, ◌∙◌, subst}
+use Rattle.std.proofs.Common.{◌≡◌, ℕ, Bool, true, false, ◌&&◌, List, Option, Some, None, Result, Ok, Err, refl, sym, ap, ◌∙◌, subst}
 use Rattle.std.specs.Option.{option_map_or}
 use Rattle.std.specs.Cmp.{nat_cmp_total}
 use Rattle.std.specs.FinMap.{entries, entries_sorted, get-entries}
 use Rattle.std.proofs.lemmas.Bool.{false≢true}
 use Rattle.wire.specs.Ether.{has_tag}
 use Rattle.wire.specs.First.{first}
-use Rattle.wire.specs.Frame.{Frame, frame_of}
+use Rattle.wire.specs.Frame.{frame_of}
 use Rattle.wire.specs.Tag.{begins_tag}
 use Rattle.wire.specs.declared.ether.reason.Refused.{Refused}
 use Rattle.wire.proofs.FirstLemmas.{NothingHolds-from, unless-ok, same_Ok}

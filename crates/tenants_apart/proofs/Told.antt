@@ -1,5 +1,5 @@
 -- Settings texts that tell alike of a segment give the same part of the settings in force.
-use Rattle.std.proofs.Common.{◌≡◌, ◌∙◌, refl, sym, ap, ℕ, ◌==◌, Bool, true, false, cond, List, [], ◌∷◌, map, filter, Option, Some}
+use Rattle.std.proofs.Common.{◌≡◌, ◌∙◌, refl, sym, ap, ℕ, ◌==◌, Bool, true, false, cond, List, [], ◌∷◌, map, filter, Option, Some, None}
 use Rattle.std.specs.Prelude.{find}
 use Rattle.std.specs.Option.{option_map}
 use Rattle.std.specs.Ordering.{nat_cmp, eq_by_cmp}
@@ -14,7 +14,7 @@ use Rattle.overlay.specs.declared.settings.segment.SegmentRule.{SegmentRule}
 use Rattle.endpoint_core.specs.Learning.{tells_learning}
 use Rattle.endpoint_core.specs.Opened.{settings_told}
 use Rattle.endpoint_core.specs.Settings.{BridgeSettings}
-use Rattle.tenants_apart.specs.Own.{part_of}
+use Rattle.tenants_apart.specs.Own.{Needs, port_there, part_of}
 use Rattle.tenants_apart.specs.Texts.{TellAlike}
 
 same-both : (a b : ℕ) → (a == b) ≡ (b == a)
@@ -72,14 +72,18 @@ module _ (vid : ℕ) where
   abbrev bridge_by : Option SegmentRule → Bool → Option BridgeSettings
   bridge_by o learning = option_map (λ rule. let b : BridgeSettings = record { limit = rule.limit; ageing = rule.ageing; learning = learning } in b) o
 
-  pub part-told : (s t : Told) → TellAlike vid s t → part_of vid (settings_told s) ≡ part_of vid (settings_told t)
-  part-told s t h =
+  pub part-told : (needs : Needs) (s t : Told) → TellAlike vid needs s t → part_of vid needs (settings_told s) ≡ part_of vid needs (settings_told t)
+  part-told needs s t h =
       let found : find (λ rule. rule.vid == vid) s.segments ≡ find (λ rule. rule.vid == vid) t.segments = found-rule s.segments ∙ ap (find (λ rule. rule.vid == vid)) h.segment ∙ sym (found-rule t.segments) in
       let learns : tells_learning s.segments vid ≡ tells_learning t.segments vid = learns-told s.segments ∙ ap (λ l. tells_learning l vid) h.segment ∙ sym (learns-told t.segments) in
       λ i. record {
-        underlay = h.underlay i;
-        ports = h.ports i;
+        shared = h.shared i;
+        ports = λ port. listed (needs.ports port) port refl i;
         members = entry-told member_rule (λ rule. (rule.vid, members_of rule)) (λ r. refl) s.segments t.segments h.segment i;
         tunnels = entry-told tunnel_rule (λ rule. (rule.vid, segment_of rule)) (λ r. refl) s.segments t.segments h.segment i;
         bridge = bridge_by (found i) (learns i);
       }
+    where
+      listed : (b : Bool) (port : ℕ) → needs.ports port ≡ b → cond b (port_there (settings_told s).ports port) None ≡ cond b (port_there (settings_told t).ports port) None
+      listed true port needed = h.ports port needed
+      listed false port other = refl

@@ -18,7 +18,7 @@ use Rattle.table_lines.specs.Lines.{lines_among, segment_lines, shown_at, tables
 use Rattle.table_lines.proofs.LineLemmas.{segments_all}
 use Rattle.stream_run.specs.Sights.{sights, state_among}
 use Rattle.run_reports.specs.Report.{Telling, asked, ended_by}
-use Rattle.tenants_apart.specs.Own.{part_of, own_events, room_replies}
+use Rattle.tenants_apart.specs.Own.{Needs, AreMembers, AreWithin, part_of, own_events, room_replies}
 use Rattle.tenants_apart.specs.Reports.{until, told_behind, tables_at, HasLines}
 use Rattle.tenants_apart.proofs.Tables.{lines-shown}
 
@@ -128,9 +128,9 @@ until-early changes moment s (e ∷ es) le = by (nat_lt moment e.moment) refl (�
     by true is next = le
     by false is next = next (ltb-false moment e.moment is)
 
-module _ (vid : ℕ) (S T : Settings) (cs ds : List TimedChange) (es fs : List Happens) (moment : ℕ) (least : 1 ≤ vid) (most : vid ≤ 4094) (up : IsRising 0 es) (rising : IsRising 0 fs)
-    (same : part_of vid S ≡ part_of vid T)
-    (events : own_events vid S (map (event_of (in_order cs moment)) (until moment es)) ≡ own_events vid T (map (event_of (in_order ds moment)) (until moment fs)))
+module _ (vid : ℕ) (needs : Needs) (S T : Settings) (cs ds : List TimedChange) (es fs : List Happens) (moment : ℕ) (least : 1 ≤ vid) (most : vid ≤ 4094) (up : IsRising 0 es) (rising : IsRising 0 fs)
+    (members : AreMembers vid needs S) (within : AreWithin vid needs S (map (event_of (in_order cs moment)) (until moment es))) (same : part_of vid needs S ≡ part_of vid needs T)
+    (events : own_events vid needs S (map (event_of (in_order cs moment)) (until moment es)) ≡ own_events vid needs T (map (event_of (in_order ds moment)) (until moment fs)))
     (replies : room_replies vid S (map (event_of (in_order cs moment)) (until moment es)) ≡ room_replies vid T (map (event_of (in_order ds moment)) (until moment fs))) where
   abbrev mine : State
   mine = passed moment (state_after (opened S) (map (event_of (in_order cs moment)) (until moment es)))
@@ -140,9 +140,9 @@ module _ (vid : ℕ) (S T : Settings) (cs ds : List TimedChange) (es fs : List H
 
   lines-same : segment_lines mine vid ≡ segment_lines theirs vid
   lines-same =
-      lines-shown vid S T (map (event_of (in_order cs moment)) (until moment es)) (map (event_of (in_order ds moment)) (until moment fs)) moment
+      lines-shown vid needs S T (map (event_of (in_order cs moment)) (until moment es)) (map (event_of (in_order ds moment)) (until moment fs)) moment
       (rising_events (in_order cs moment) 0 (until moment es) (until-rises moment 0 es up)) (rising_events (in_order ds moment) 0 (until moment fs) (until-rises moment 0 fs rising))
-      same events replies
+      members within same events replies
       (until-early (in_order cs moment) moment (opened S) es (omega arith)) (until-early (in_order ds moment) moment (opened T) fs (omega arith))
 
   pub own-lines : (own : List ℕ) × HasLines vid own (tables_at moment S cs es) × HasLines vid own (tables_at moment T ds fs)

@@ -42,7 +42,7 @@ use Rattle.endpoint_core.specs.Event.{FrameAt, Packet, Asks, Event, Input}
 use Rattle.endpoint_core.specs.Run.{settings_after_input, settings_after}
 use Rattle.noninterference.specs.Alone.{is_segment}
 use Rattle.noninterference.proofs.Arriving.{found, found_for}
-use Rattle.tenants_apart.specs.Own.{segment_met}
+use Rattle.tenants_apart.specs.Own.{common, segment_met}
 use Rattle.tenants_apart.specs.Vnis.{AreVnisApart}
 use Rattle.tenants_apart.proofs.Changing.{flooded, flooding-at}
 use Rattle.tenants_apart.proofs.Coming.{met-found, came_by-found}
@@ -198,20 +198,20 @@ found-too vid S T here apart d (Some kind) own = by (segment_by S kind (vni_of k
         let that = stands T f was in
         eq-eqb vid f.0 (sym (apart vid f.0 kind vni (has e.1 vid there it.1) (has f.1 f.0 that.0 that.1)))
 
-found-for : (vid : ℕ) (S T : Overlay) → S.underlay ≡ T.underlay → overlay_segment S vid ≡ overlay_segment T vid → AreVnisApart T → (b : List ℕ) → is_segment vid (option_map (λ e. e.0) (found S b)) ≡ true → is_segment vid (option_map (λ e. e.0) (found T b)) ≡ true
+found-for : (vid : ℕ) (S T : Overlay) → common S.underlay ≡ common T.underlay → overlay_segment S vid ≡ overlay_segment T vid → AreVnisApart T → (b : List ℕ) → is_segment vid (option_map (λ e. e.0) (found S b)) ≡ true → is_segment vid (option_map (λ e. e.0) (found T b)) ≡ true
 unfolding found
 found-for vid S T underlay here apart b own =
     let d = data_of (packet_in b).payload in
     ap (λ (U : Underlay). is_segment vid (option_map (λ e. e.0) (found_for T d (kind_to U (packet_in b))))) (sym underlay)
     ∙ found-too vid S T here apart d (kind_to S.underlay (packet_in b)) own
 
-packet-too : (vid : ℕ) (S T : Overlay) → S.underlay ≡ T.underlay → overlay_segment S vid ≡ overlay_segment T vid → AreVnisApart T → (original : ℕ) (b : List ℕ) → is_segment vid (segment_met (came_by S original b)) ≡ true → is_segment vid (segment_met (came_by T original b)) ≡ true
+packet-too : (vid : ℕ) (S T : Overlay) → common S.underlay ≡ common T.underlay → overlay_segment S vid ≡ overlay_segment T vid → AreVnisApart T → (original : ℕ) (b : List ℕ) → is_segment vid (segment_met (came_by S original b)) ≡ true → is_segment vid (segment_met (came_by T original b)) ≡ true
 packet-too vid S T underlay here apart original b own =
     let in_S = met-found vid S original b own in
     ap (λ (r : Result Arrival Refused). is_segment vid (segment_met r)) (came_by-found vid S T underlay here original b in_S (found-for vid S T underlay here apart b in_S)) ∙ own
 
 -- so a packet is of the segment in both or in neither
-pub packet-own : (vid : ℕ) (S T : Overlay) → S.underlay ≡ T.underlay → overlay_segment S vid ≡ overlay_segment T vid → AreVnisApart S → AreVnisApart T → (original : ℕ) (b : List ℕ) → is_segment vid (segment_met (came_by S original b)) ≡ is_segment vid (segment_met (came_by T original b))
+pub packet-own : (vid : ℕ) (S T : Overlay) → common S.underlay ≡ common T.underlay → overlay_segment S vid ≡ overlay_segment T vid → AreVnisApart S → AreVnisApart T → (original : ℕ) (b : List ℕ) → is_segment vid (segment_met (came_by S original b)) ≡ is_segment vid (segment_met (came_by T original b))
 packet-own vid S T underlay here apart other original b = by (is_segment vid (segment_met (came_by S original b))) (is_segment vid (segment_met (came_by T original b))) refl refl
   where
     by : (c d : Bool) → is_segment vid (segment_met (came_by S original b)) ≡ c → is_segment vid (segment_met (came_by T original b)) ≡ d → c ≡ d

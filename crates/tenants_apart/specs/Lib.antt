@@ -4,4 +4,5 @@ pub mod Reports
 pub mod Runs
 pub mod Single
 pub mod Texts
+pub mod Until
 pub mod Vnis

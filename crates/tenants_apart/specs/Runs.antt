@@ -2,7 +2,7 @@
 --     whole      all that comes to a run: its changes, and of each capture the records in front of its first fault
 --     AreFirst      the first events of a run, and with all of them the captures that are cut
 --     Hold      the outputs hold the records and the lines of some events
-use Rattle.std.specs.Prelude.{◌≡◌, ◌⊎◌, ℕ, List, [], ◌++◌, length}
+use Rattle.std.specs.Prelude.{◌≡◌, ◌⊎◌, List, [], ◌++◌, length}
 use Rattle.std.specs.List.{flat_map}
 use Rattle.pcap.specs.Written.{written}
 use Rattle.timeline.specs.Events.{IsTapOf}

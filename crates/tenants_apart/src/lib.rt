@@ -7,20 +7,23 @@
 //! of a frame in its segment ([`laws::leaving`]), and enters that again where it is read ([`laws::again`]), but for what leaves
 //! without a tag and has one in its body ([`laws::second_tag`]).
 //!
-//! Specs to read, in order: `specs/Own` (which events are a segment's own), `specs/Texts`, `specs/Vnis`, `specs/Single`,
-//! `specs/Again`, `specs/Runs`, `specs/Reports`.
+//! Specs to read, in order: `specs/Own` (what a segment has and needs, and which events are its own), `specs/Texts`,
+//! `specs/Until`, `specs/Vnis`, `specs/Single`, `specs/Again`, `specs/Runs`, `specs/Reports`.
 //!
-//! Proved: for two settings that agree in the underlay, the ports and all that the segment has, and events that agree in what is
-//! its own, its own `AddSegment` and `SetLimit` answered alike, its answers, what leaves in it and its decision lines are the
-//! same. The laws of `noninterference` follow ([`laws::earlier`]).
+//! Proved: for two settings that agree in what the segment has and needs, and events that agree in what is its own, its own
+//! `AddSegment` and `SetLimit` answered alike, its answers, what leaves in it and its decision lines are the same. The laws of
+//! `noninterference` follow ([`laws::earlier`]).
 //!
 //! Proved besides:
-//! - Two runs with two settings that agree in the underlay, the ports and all that one segment has, or in that it isn't
-//!   there, and whose events agree in what is the segment's own (its frames and packets, by the settings in force, the
-//!   changes that name it, and those of ports), its own `add_segment` and `set_limit` answered alike: every event of
-//!   its own is answered alike, what leaves in it is the same, moment, place and octets, in order, and so are its
-//!   decision lines but for their numbers, whatever other segments have, do, add, remove, fill or limit:
-//!   `laws::events`.
+//! - Two runs with two settings that agree in all that one segment has, or in that it isn't there, and in what it needs
+//!   of ports, next hops and limits, and whose events agree in what is the segment's own (its frames and packets, by the
+//!   settings in force, the changes that name it, and those of ports that it needs), its own `add_segment` and
+//!   `set_limit` answered alike: every event of its own is answered alike, what leaves in it is the same, moment, place
+//!   and octets, in order, and so are its decision lines but for their numbers, whatever other segments have, do, add,
+//!   remove, fill or limit: `laws::events`. Whatever these two kinds of change are answered, it is so up to the first
+//!   that is answered otherwise, over events and over captures: `laws::until`. Settings with the same underlay and the
+//!   same ports agree in whatever a segment needs of them: `laws::enough`. Something is sent in it to remotes alone
+//!   that its flood list, its changes or its packets told: `laws::remotes`.
 //! - What is live of the segment's table at a moment that isn't before the last event of either, and the lines that
 //!   tell it, are the same: `laws::tables`.
 //! - What `laws::events` says of lists of events holds of whole captures with two settings texts: `laws::captures`. Of
@@ -45,8 +48,9 @@
 //!   lines of the segment, between those of smaller VIDs and those of larger: `reports::at_a_moment`.
 //!
 //! Why it is so: what is a segment's own is told by the settings in force and not by what a run answers, so the premise can be
-//! checked on what comes in. Others are felt by the answers to those two kinds of change alone: a VID or VNI that is taken, too
-//! many segments, a full pool. So these answers are the one premise that looks at a run.
+//! checked on what comes in. Others are felt by the answers to those two kinds of change alone: a VNI that is another's, too many
+//! segments, a full pool. So these answers are a premise that looks at a run. The only other one is which remotes something is
+//! sent to, and those are among the ones that came in ([`laws::remotes`]).
 #![tactic(auto)]
 
 pub mod laws;

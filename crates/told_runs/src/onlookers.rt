@@ -11,7 +11,7 @@ use overlay_config::TimedChange;
 use program_files::Failure;
 use run_counts::RunCounts;
 use run_progress::Progress;
-use run_reports::{Onlooker, Reports};
+use run_reports::Reports;
 use segment_set::SegmentSet;
 use std::alloc::{AllocError, Global};
 use std::rt::Files;
@@ -24,7 +24,8 @@ use tunnel_traffic::TunnelTraffic;
 /// Who looks on for what is printed behind a run.
 #[derive(Drop)]
 pub(crate) struct LookedOn<'n, 'a> {
-    pub(crate) onlooker: Onlooker<'n, 'a>,
+    pub(crate) reports: Option<Reports<'n, 'a>>,
+    pub(crate) counts: Option<RunCounts>,
     pub(crate) tunnels: Option<TunnelTraffic>,
     pub(crate) talkers: Option<Talkers>,
 }
@@ -96,19 +97,23 @@ fn looked_on<'n, 'a>(
         return Ok(None);
     }
     Ok(Some(LookedOn {
-        onlooker: onlooker_of(alloc, job.asked, changes, job.segments)?,
+        reports: reports_of(alloc, job.asked, changes, job.segments)?,
+        counts: counts_of(alloc, job.asked),
         tunnels: tunnels_of(alloc, job.asked)?,
         talkers: talkers_of(alloc, job.asked)?,
     }))
 }
 
-/// Who tells stories and tables of a run with these changes, of these segments, and counts.
-fn onlooker_of<'n, 'a>(
+/// Who tells stories and tables of a run with these changes, of these segments, where either is asked for.
+fn reports_of<'n, 'a>(
     alloc: Global,
     asked: Asked<'n, 'a>,
     changes: &'n [TimedChange],
     segments: &'n SegmentSet,
-) -> Result<Onlooker<'n, 'a>, AllocError> {
+) -> Result<Option<Reports<'n, 'a>>, AllocError> {
+    if !asked.wants_reports() {
+        return Ok(None);
+    }
     let reports = Reports::new(
         alloc,
         asked.why,
@@ -117,12 +122,16 @@ fn onlooker_of<'n, 'a>(
         asked.tables_at,
         asked.tables,
     )?;
-    let counts = if asked.summary {
+    Ok(Some(reports))
+}
+
+/// Whoever counts, where a run is asked for its summary.
+fn counts_of(alloc: Global, asked: Asked<'_, '_>) -> Option<RunCounts> {
+    if asked.summary {
         Some(RunCounts::new(alloc))
     } else {
         None
-    };
-    Ok(Onlooker { reports, counts })
+    }
 }
 
 /// Whoever counts what passes by tunnels, where a run is asked for its summary.
@@ -198,7 +207,12 @@ impl Watch for LookedOn<'_, '_> {
 
     #[inline]
     fn see(&mut self, endpoint: &Endpoint, number: u64, event: &Event, came: &Forwarding) {
-        self.onlooker.see(endpoint, number, event, came);
+        if let Some(reports) = &mut self.reports {
+            reports.see(endpoint, number, event, came);
+        }
+        if let Some(counts) = &mut self.counts {
+            counts.see(endpoint, number, event, came);
+        }
         if let Some(tunnels) = &mut self.tunnels {
             tunnels.see(endpoint, number, event, came);
         }
@@ -209,7 +223,9 @@ impl Watch for LookedOn<'_, '_> {
 
     #[inline]
     fn hear_decision(&mut self, endpoint: &Endpoint, forwarding: &Forwarding, places: &[Place]) {
-        self.onlooker.hear_decision(endpoint, forwarding, places);
+        if let Some(counts) = &mut self.counts {
+            counts.hear_decision(endpoint, forwarding, places);
+        }
         if let Some(tunnels) = &mut self.tunnels {
             tunnels.hear_decision(endpoint, forwarding, places);
         }
@@ -220,7 +236,9 @@ impl Watch for LookedOn<'_, '_> {
 
     #[inline]
     fn hear_reply(&mut self, reply: Result<(), ChangeFault>) {
-        self.onlooker.hear_reply(reply);
+        if let Some(counts) = &mut self.counts {
+            counts.hear_reply(reply);
+        }
         if let Some(tunnels) = &mut self.tunnels {
             tunnels.hear_reply(reply);
         }
@@ -231,7 +249,12 @@ impl Watch for LookedOn<'_, '_> {
 
     #[inline]
     fn pass_over(&mut self, endpoint: &Endpoint, number: u64, event: &Event) {
-        self.onlooker.pass_over(endpoint, number, event);
+        if let Some(reports) = &mut self.reports {
+            reports.pass_over(endpoint, number, event);
+        }
+        if let Some(counts) = &mut self.counts {
+            counts.pass_over(endpoint, number, event);
+        }
         if let Some(tunnels) = &mut self.tunnels {
             tunnels.pass_over(endpoint, number, event);
         }
@@ -242,7 +265,12 @@ impl Watch for LookedOn<'_, '_> {
 
     #[inline]
     fn end(&mut self, endpoint: &Endpoint) {
-        self.onlooker.end(endpoint);
+        if let Some(reports) = &mut self.reports {
+            reports.end(endpoint);
+        }
+        if let Some(counts) = &mut self.counts {
+            counts.end(endpoint);
+        }
         if let Some(tunnels) = &mut self.tunnels {
             tunnels.end(endpoint);
         }

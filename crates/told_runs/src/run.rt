@@ -51,11 +51,12 @@ pub struct Asked<'n, 'a> {
 impl Asked<'_, '_> {
     /// Whether nothing is printed besides the outputs.
     pub(crate) fn is_nothing(self) -> bool {
-        self.why.is_empty()
-            && self.tables_at.is_none()
-            && !self.tables
-            && !self.summary
-            && !self.talkers
+        !self.wants_reports() && !self.summary && !self.talkers
+    }
+
+    /// Whether stories or tables are printed.
+    pub(crate) fn wants_reports(self) -> bool {
+        !self.why.is_empty() || self.tables_at.is_some() || self.tables
     }
 
     /// Whether nothing is written but the outputs that each run has.

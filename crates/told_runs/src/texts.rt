@@ -5,7 +5,7 @@ use crate::run::{Asked, AskedJob};
 use json_lines::kinds::Kind;
 use program_files::{Failure, OutputFile, Shown, print_shown};
 use run_counts::{RunCounts, put_cuts};
-use run_reports::Onlooker;
+use run_reports::Reports;
 use runs_on_files::Ran;
 use std::alloc::{AllocError, Global};
 use std::rt::Files;
@@ -30,14 +30,12 @@ pub(crate) fn tell_all<R: Files + AllocGlobal + Print, L: LeavesOut>(
         };
     };
     let LookedOn {
-        onlooker,
+        reports,
+        counts,
         tunnels,
         talkers,
     } = looked;
-    let Onlooker { reports, counts } = onlooker;
-    let Ok((told, tables)) = reports.into_texts() else {
-        return Err(Failure::from(AllocError));
-    };
+    let (told, tables) = reported(rt.alloc(), reports)?;
     let summary = summary_of(rt.alloc(), counts, tunnels, sieve, ran.cut.as_slice())?;
     let talks = talks_text(rt.alloc(), talkers)?;
     let texts = PrintedTexts { tables, summary };
@@ -118,14 +116,22 @@ pub(crate) fn print_told<R: AllocGlobal + Print, L: LeavesOut>(
     let Some(looked) = looked else {
         return Ok(());
     };
-    let LookedOn { onlooker, .. } = looked;
-    let Onlooker { reports, .. } = onlooker;
-    let Ok((told, tables)) = reports.into_texts() else {
-        return Err(Failure::from(AllocError));
-    };
+    let LookedOn { reports, .. } = looked;
+    let (told, tables) = reported(rt.alloc(), reports)?;
     print_as(rt, json, Kind::Events, told.as_slice())
         .and(print_left_out(rt, json, sieve))
         .and(print_as(rt, json, Kind::Tables, tables.as_slice()))
+}
+
+/// What was told, and the tables at the end.
+fn reported(
+    alloc: Global,
+    reports: Option<Reports<'_, '_>>,
+) -> Result<(Vec<u8>, Vec<u8>), AllocError> {
+    match reports {
+        Some(reports) => reports.into_texts(),
+        None => Ok((Vec::new(alloc), Vec::new(alloc))),
+    }
 }
 
 /// Prints what is told of the records that were left out and are asked for by name.
@@ -155,12 +161,18 @@ pub(crate) fn tell_missing<'a, L: LeavesOut>(
     looked: &Option<LookedOn<'_, '_>>,
     sieve: &L,
 ) -> Result<(), Failure<'a>> {
-    let Some(LookedOn { onlooker, .. }) = looked else {
+    let Some(
+        LookedOn {
+            reports: Some(reports),
+            ..
+        },
+    ) = looked
+    else {
         return Ok(());
     };
     let mut missing = Ok(());
     for (place, name) in names.iter().enumerate() {
-        if !onlooker.reports.is_found(place) && !sieve.is_named(place) {
+        if !reports.is_found(place) && !sieve.is_named(place) {
             if let Err(failure) = &missing {
                 let _ = eprintln!(rt; "{failure}");
             }

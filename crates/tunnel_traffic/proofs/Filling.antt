@@ -1,6 +1,6 @@
 -- Tables that are filled row by row, as their lines tell them.
-use Rattle.std.proofs.Common.{◌≡◌, ◌∙◌, ap, sym, refl, ℕ, ◌+◌, ◌^◌, ◌<◌, ◌≤◌, Bool, true, false, cond, List, [], ◌∷◌, ◌++◌, append-nil, append_assoc, arith, length}
-use Rattle.std.specs.Prelude.{◌==◌, ◌&&◌, if◌then◌else◌, ⊤, min}
+use Rattle.std.proofs.Common.{◌≡◌, ◌∙◌, ap, sym, refl, ℕ, ◌+◌, ◌^◌, ◌<◌, ◌≤◌, Bool, true, false, cond, List, [], ◌∷◌, ◌++◌, arith, length}
+use Rattle.std.specs.Prelude.{◌==◌, ◌&&◌, if◌then◌else◌, min}
 use Rattle.std.specs.List.{AllByRecursion, flat_map}
 use Rattle.std.proofs.lemmas.Bool.{eqb-true}
 use Rattle.std.proofs.lemmas.List.{drop_all, take_all}
@@ -10,11 +10,10 @@ use Rattle.ranked_rows.specs.Rows.{AreRising, total}
 use Rattle.tunnel_traffic.specs.Key.{rank}
 use Rattle.tunnel_traffic.specs.TrafficRows.{Rows, TrafficRow, counted, counted_all, no_rows, shown}
 use Rattle.tunnel_traffic.specs.Traffic.{no_traffic, traffic_with}
-use Rattle.tunnel_traffic.specs.declared.rows.key.TunnelKey.{TunnelKey}
 use Rattle.tunnel_traffic.specs.declared.rows.traffic.Traffic.{Traffic}
 use Rattle.tunnel_traffic.proofs.Sums.{all_shown, sums}
 use Rattle.tunnel_traffic.specs.Tables.{Tunnels, no_tunnels}
-use Rattle.tunnel_traffic.specs.Tables.{ArePackets, IsEndpoint, IsNetwork, IsRow, IsTable, IsTold, IsTraffic, packets_of}
+use Rattle.tunnel_traffic.specs.Tables.{ArePackets, IsNetwork, IsRow, IsTold, IsTraffic, packets_of}
 use Rattle.tunnel_traffic.specs.Rows.{told_by, with_row}
 use Rattle.tunnel_traffic.specs.declared.told.row.Row.{Row}
 use Rattle.tunnel_traffic.specs.declared.told.row.Row.TheVariants.{Unknown, UnknownOthers, Remote, RemoteOthers}

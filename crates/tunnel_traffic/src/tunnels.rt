@@ -75,6 +75,7 @@ impl Watch for TunnelTraffic {
 
     ghost ends = { λ old state new. new ≡ old };
 
+    #[inline]
     fn see(&mut self, endpoint: &Endpoint, _number: u64, event: &Event, came: &Forwarding) {
         match &event.happening {
             Happening::Change(_) => {}
@@ -82,6 +83,7 @@ impl Watch for TunnelTraffic {
         }
     }
 
+    #[inline]
     fn hear_decision(&mut self, endpoint: &Endpoint, forwarding: &Forwarding, places: &[Place]) {
         self.count_decision(endpoint, forwarding, places);
     }
@@ -95,6 +97,7 @@ impl Watch for TunnelTraffic {
 
 impl TunnelTraffic {
     /// Counts what leaves of a frame or a packet.
+    #[inline]
     fn count_decision(&mut self, endpoint: &Endpoint, forwarding: &Forwarding, places: &[Place])
         requires there { IsThere (state_of endpoint.now).bridges.settings forwarding.now }
         requires leave { CanLeave (state_of endpoint.now).bridges.settings forwarding.now places.now }
@@ -105,6 +108,7 @@ impl TunnelTraffic {
     }
 
     /// Counts what a record is before its answer.
+    #[inline]
     fn count_record(
         &mut self,
         endpoint: &Endpoint,
@@ -122,6 +126,7 @@ impl TunnelTraffic {
     }
 
     /// Counts what a packet of the underlay is before its answer.
+    #[inline]
     fn count_packet(&mut self, endpoint: &Endpoint, octets: &[u8], came: &Forwarding)
         ensures { self.new ≡ packet_told self.old (state_of endpoint.now).bridges.settings.overlay octets.now came.now }
     {
@@ -163,6 +168,7 @@ fn is_unknown(reason: Reason) -> bool
 }
 
 /// Counts packets, one or more, of a place, where that is a remote endpoint.
+#[inline]
 fn count_at(remotes: &mut RemoteRows, place: Place, traffic: Traffic)
     requires { 0 < traffic.came + traffic.left }
     ensures { remotes.new ≡ counted_all remotes.old (rows_at place traffic) }
@@ -173,6 +179,7 @@ fn count_at(remotes: &mut RemoteRows, place: Place, traffic: Traffic)
 }
 
 /// Counts what leaves of a frame or a packet.
+#[inline]
 fn count_answer(
     remotes: &mut RemoteRows,
     endpoint: &Endpoint,
@@ -190,6 +197,7 @@ fn count_answer(
 }
 
 /// Counts what leaves of a frame at each of these places.
+#[inline]
 fn count_leaving(remotes: &mut RemoteRows, endpoint: &Endpoint, came: &Arrival, places: &[Place])
     requires there { IsSome (segment_at (state_of endpoint.now).bridges.settings came.now.vid) }
     requires leave { IsTrue (list_all (can_leave (state_of endpoint.now).bridges.settings came.now.vid) places.now) }
@@ -197,20 +205,21 @@ fn count_leaving(remotes: &mut RemoteRows, endpoint: &Endpoint, came: &Arrival, 
         remotes.new ≡ counted_all remotes.old (flat_map outcome_rows (map (sent_at S came.now.vid came.now.frame) places.now)) }
 {
     for place in places {
-        count_sent(remotes, endpoint, came, *place);
+        count_sent(remotes, endpoint, came, place);
     }
 }
 
 /// Counts what leaves of a frame at a place, where something does. It isn't measured at a port, where nothing is counted.
-fn count_sent(remotes: &mut RemoteRows, endpoint: &Endpoint, came: &Arrival, place: Place)
-    requires { IsTrue (can_leave (state_of endpoint.now).bridges.settings came.now.vid place) }
+#[inline]
+fn count_sent(remotes: &mut RemoteRows, endpoint: &Endpoint, came: &Arrival, place: &Place)
+    requires { IsTrue (can_leave (state_of endpoint.now).bridges.settings came.now.vid place.now) }
     ensures { let S = (state_of endpoint.now).bridges.settings in
-        remotes.new ≡ counted_all remotes.old (outcome_rows (sent_at S came.now.vid came.now.frame place)) }
+        remotes.new ≡ counted_all remotes.old (outcome_rows (sent_at S came.now.vid came.now.frame place.now)) }
 {
     if let Place::Local(_) = place {
         return;
     }
-    if let Ok(size) = endpoint.size_at(came, place) {
-        count_at(remotes, place, Traffic::one_left(size as u64));
+    if let Ok(size) = endpoint.size_at(came, *place) {
+        count_at(remotes, *place, Traffic::one_left(size as u64));
     }
 }

@@ -10,7 +10,7 @@ static COMPARED: [Form; 16] = [
     form!([Text, Number] => { "count": [1], "line": [0] }),
     form!([TextBefore(b':'), "sent", NumberBefore(b','), "received", NumberBefore(b','), "both",
         NumberBefore(b','), "sent", "alone", NumberBefore(b','), "received", "alone", Number] => {
-        "both": [6], "line": "place", "place": [0], "received": [4], "received_alone": [12], "sent": [2],
+        "both": [6], "line": "counts", "place": [0], "received": [4], "received_alone": [12], "sent": [2],
         "sent_alone": [9]
     }),
     form!(["segment", NumberBefore(b':'), "sent", NumberBefore(b','), "received", NumberBefore(b','),
@@ -30,10 +30,10 @@ static COMPARED: [Form; 16] = [
         "count": [3], "line": "behind another", "place": [0]
     }),
     form!(["cut:", "sent", NumberBefore(b','), "received", Number] => {
-        "line": "cut", "received": [4], "sent": [2]
+        "line": "cut records", "received": [4], "sent": [2]
     }),
     form!([TextBefore(b':'), "cut:", "sent", NumberBefore(b','), "received", Number] => {
-        "line": "cut", "place": [0], "received": [5], "sent": [3]
+        "line": "cut records", "place": [0], "received": [5], "sent": [3]
     }),
     // A capture that ends within a record.
     form!([TextBefore(b':'), "cut"] => { "line": "ends cut", "side": [0] }),

@@ -19,10 +19,10 @@ static COUNTS: [Form; 13] = [
         "count": [3], "direction": [2], "line": [0], "octets": [4], "place": [1]
     }),
     form!(["checksum", "partial", Number] => { "count": [2], "line": [0] }),
-    form!(["cut", Text, Number] => { "line": [0], "place": [1], "records": [2] }),
+    form!(["cut", Text, Number] => { "line": [0], "records": [2], "source": [1] }),
     form!(["unknown", "others", Number] => { "count": [2], "line": [0] }),
     form!(["unknown", Text, Number, "from", Text, Number] => {
-        "address": [4], "count": [5], "kind": [1], "line": [0], "vni": [2]
+        "count": [5], "kind": [1], "line": [0], "sender": [4], "vni": [2]
     }),
     form!(["remote", Text, "in", Number, Number, "out", Number, Number] => {
         "in": [3], "in_octets": [4], "line": [0], "out": [6], "out_octets": [7], "remote": [1]
@@ -31,12 +31,12 @@ static COUNTS: [Form; 13] = [
         "count": [2], "first": [5], "last": [7], "line": [0], "octets": [3]
     }),
     form!(["talk", Number, Text, Text, ">", Text, Text, Number, Number, "first", Text, "last", Text] => {
-        "count": [7], "destination": [5], "first": [10], "from": [3], "last": [12], "line": [0],
-        "octets": [8], "segment": [1], "source": [2], "to": [6]
+        "count": [7], "destination_address": [5], "first": [10], "from": [3], "last": [12], "line": [0],
+        "octets": [8], "segment": [1], "source_address": [2], "to": [6]
     }),
     form!(["talk", Number, Text, Text, ">", Text, Text, Number, Number, "first", Text, "last", Text, "short", Number] => {
-        "count": [7], "destination": [5], "first": [10], "from": [3], "last": [12], "line": [0],
-        "octets": [8], "segment": [1], "short": [14], "source": [2], "to": [6]
+        "count": [7], "destination_address": [5], "first": [10], "from": [3], "last": [12], "line": [0],
+        "octets": [8], "segment": [1], "short": [14], "source_address": [2], "to": [6]
     }),
 ];
 

@@ -26,22 +26,22 @@ static LONELY_SENT: [Form; 9] = [
     // The next four: what was sent alone and is near one that was received alone; what differs stands behind.
     form!([Text, Text, "sent", "alone", "length", Number, "record", Number, "vlan", Number, "event",
         Number; Rest] => {
-        "difference": Rest, "event": [11], "length": [5], "line": "sent alone", "moment": [0], "place": [1],
+        "differs": Rest, "event": [11], "length": [5], "line": "sent alone", "moment": [0], "place": [1],
         "record": [7], "vid": [9], "where": [8]
     }),
     form!([Text, Text, "sent", "alone", "length", Number, "record", Number, "untagged", "event",
         Number; Rest] => {
-        "difference": Rest, "event": [10], "length": [5], "line": "sent alone", "moment": [0], "place": [1],
+        "differs": Rest, "event": [10], "length": [5], "line": "sent alone", "moment": [0], "place": [1],
         "record": [7], "where": [8]
     }),
     form!([Text, Text, "sent", "alone", "length", Number, "record", Number, "no", "tunnel", "event",
         Number; Rest] => {
-        "difference": Rest, "event": [11], "length": [5], "line": "sent alone", "moment": [0], "place": [1],
+        "differs": Rest, "event": [11], "length": [5], "line": "sent alone", "moment": [0], "place": [1],
         "record": [7], "where": "no tunnel"
     }),
     form!([Text, Text, "sent", "alone", "length", Number, "record", Number, Text, Number, "event",
         Number; Rest] => {
-        "difference": Rest, "event": [11], "length": [5], "line": "sent alone", "moment": [0], "place": [1],
+        "differs": Rest, "event": [11], "length": [5], "line": "sent alone", "moment": [0], "place": [1],
         "record": [7], "vni": [9], "where": [8]
     }),
 ];
@@ -86,18 +86,18 @@ pub(crate) fn lonely_received_forms() -> &'static [Form]
 static DIFFERENCES: [Form; 4] = [
     form!([TextBefore(b':'), "vlan", NumberBefore(b':'), Text, Text, "for", TextBefore(b':'), NumberBefore(b','),
         "first", "record", Number, "for", Number] => {
-        "count": [7], "difference": [3], "line": "difference", "place": [0], "received": [4],
-        "received_record": [10], "sent": [6], "sent_record": [12], "vid": [2], "where": [1]
+        "count": [7], "difference": [3], "line": "difference", "place": [0], "received_record": [10],
+        "received_value": [4], "sent_record": [12], "sent_value": [6], "vid": [2], "where": [1]
     }),
     form!([TextBefore(b':'), "untagged:", Text, Text, "for", TextBefore(b':'), NumberBefore(b','), "first",
         "record", Number, "for", Number] => {
-        "count": [6], "difference": [2], "line": "difference", "place": [0], "received": [3],
-        "received_record": [9], "sent": [5], "sent_record": [11], "where": "untagged"
+        "count": [6], "difference": [2], "line": "difference", "place": [0], "received_record": [9],
+        "received_value": [3], "sent_record": [11], "sent_value": [5], "where": "untagged"
     }),
     form!([TextBefore(b':'), Text, NumberBefore(b':'), Text, Text, "for", TextBefore(b':'), NumberBefore(b','),
         "first", "record", Number, "for", Number] => {
-        "count": [7], "difference": [3], "line": "difference", "place": [0], "received": [4],
-        "received_record": [10], "sent": [6], "sent_record": [12], "vni": [2], "where": [1]
+        "count": [7], "difference": [3], "line": "difference", "place": [0], "received_record": [10],
+        "received_value": [4], "sent_record": [12], "sent_value": [6], "vni": [2], "where": [1]
     }),
     form!([TextBefore(b':'), "other", "differences:", Number] => {
         "count": [3], "line": "other differences", "place": [0]

@@ -13,34 +13,34 @@ static LOOKS: [Form; 13] = [
     }),
     // Captures: pcap, then pcapng; each without moments, then with the first and the last; of one record, then of none or several.
     form!([TextBefore(b':'), "pcap", Text, Text, "ethernet,", Number, "record"] => {
-        "kind": [1], "line": "capture", "order": [2], "place": [0], "precision": [3], "records": [5]
+        "capture": [1], "line": "capture", "order": [2], "place": [0], "precision": [3], "records": [5]
     }),
     form!([TextBefore(b':'), "pcap", Text, Text, "ethernet,", Number, "records"] => {
-        "kind": [1], "line": "capture", "order": [2], "place": [0], "precision": [3], "records": [5]
+        "capture": [1], "line": "capture", "order": [2], "place": [0], "precision": [3], "records": [5]
     }),
     form!([TextBefore(b':'), "pcap", Text, Text, "ethernet,", Number, "record,", "first", TextBefore(b','),
         "last", Text] => {
-        "first": [8], "kind": [1], "last": [10], "line": "capture", "order": [2], "place": [0],
+        "capture": [1], "first_second": [8], "last_second": [10], "line": "capture", "order": [2], "place": [0],
         "precision": [3], "records": [5]
     }),
     form!([TextBefore(b':'), "pcap", Text, Text, "ethernet,", Number, "records,", "first", TextBefore(b','),
         "last", Text] => {
-        "first": [8], "kind": [1], "last": [10], "line": "capture", "order": [2], "place": [0],
+        "capture": [1], "first_second": [8], "last_second": [10], "line": "capture", "order": [2], "place": [0],
         "precision": [3], "records": [5]
     }),
     form!([TextBefore(b':'), "pcapng", "ethernet,", Number, "record"] => {
-        "kind": [1], "line": "capture", "place": [0], "records": [3]
+        "capture": [1], "line": "capture", "place": [0], "records": [3]
     }),
     form!([TextBefore(b':'), "pcapng", "ethernet,", Number, "records"] => {
-        "kind": [1], "line": "capture", "place": [0], "records": [3]
+        "capture": [1], "line": "capture", "place": [0], "records": [3]
     }),
     form!([TextBefore(b':'), "pcapng", "ethernet,", Number, "record,", "first", TextBefore(b','), "last",
         Text] => {
-        "first": [6], "kind": [1], "last": [8], "line": "capture", "place": [0], "records": [3]
+        "capture": [1], "first_second": [6], "last_second": [8], "line": "capture", "place": [0], "records": [3]
     }),
     form!([TextBefore(b':'), "pcapng", "ethernet,", Number, "records,", "first", TextBefore(b','), "last",
         Text] => {
-        "first": [6], "kind": [1], "last": [8], "line": "capture", "place": [0], "records": [3]
+        "capture": [1], "first_second": [6], "last_second": [8], "line": "capture", "place": [0], "records": [3]
     }),
     form!([TextBefore(b':'), Number; Rest] => { "count": [1], "line": "note", "note": Rest, "place": [0] }),
     form!([TextBefore(b':'); Rest] => { "line": "note", "note": Rest, "place": [0] }),

@@ -5,5 +5,5 @@ pub returns : goal.returns
 returns c = record {
   told = apart-told;
   kept = apart-after;
-  own_packets = λ vid S T original b apart other underlay here. packet-own vid S.overlay T.overlay underlay here apart other original b;
+  own_packets = λ vid needs S T original b apart other underlay here. packet-own vid S.overlay T.overlay underlay here apart other original b;
 }

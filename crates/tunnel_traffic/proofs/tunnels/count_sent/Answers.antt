@@ -10,17 +10,17 @@ use Rattle.tunnel_traffic.proofs.tunnels.count_sent.Goals as goal
 
 pub returns-in-Ok : goal.returns-in-Ok
 returns-in-Ok c =
-    let o : Sent = sent_at (state_of c.args.endpoint.now).bridges.settings c.args.came.now.vid c.args.came.now.frame c.args.place in
+    let o : Sent = sent_at (state_of c.args.endpoint.now).bridges.settings c.args.came.now.vid c.args.came.now.frame c.args.place.now in
     c.count_at.ensures
-    ∙ ap (λ (t : Traffic). counted_all c.args.remotes.now (rows_at c.args.place t)) c.one_left.ensures
+    ∙ ap (λ (t : Traffic). counted_all c.args.remotes.now (rows_at c.args.place.now t)) c.one_left.ensures
     ∙ ap (counted_all c.args.remotes.now) (sized_rows o c.size_at.result c.in-Ok.size c.in-Ok.is c.size_at.ensures)
 
 pub returns-in_default-size_at : goal.returns-in_default-size_at
 returns-in_default-size_at c =
-    let o : Sent = sent_at (state_of c.args.endpoint.now).bridges.settings c.args.came.now.vid c.args.came.now.frame c.args.place in
+    let o : Sent = sent_at (state_of c.args.endpoint.now).bridges.settings c.args.came.now.vid c.args.came.now.frame c.args.place.now in
     ap (counted_all c.args.remotes.now) (unsized_rows o c.size_at.result c.in_default-size_at.field-0 c.in_default-size_at.is c.size_at.ensures)
 
 pub returns-in-Local : goal.returns-in-Local
 returns-in-Local c =
-    let o : Sent = sent_at (state_of c.args.endpoint.now).bridges.settings c.args.came.now.vid c.args.came.now.frame c.args.place in
+    let o : Sent = sent_at (state_of c.args.endpoint.now).bridges.settings c.args.came.now.vid c.args.came.now.frame c.args.place.now in
     ap (counted_all c.args.remotes.now) (local_rows o _ c.in-Local.is)

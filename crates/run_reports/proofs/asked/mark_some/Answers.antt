@@ -4,7 +4,7 @@ use Rattle.std.proofs.lemmas.List.Sorted.{IsPartitionPoint-from_clause, IsPartit
 use Rattle.run_reports.specs.declared.asked.Asked.{Asked}
 use Rattle.run_reports.specs.Reading.{is_its, is_its_at}
 use Rattle.run_reports.proofs.Listing.{any_front, any_none, blank, other, other_at, rising_from}
-use Rattle.run_reports.proofs.asked.mark_named.Goals as goal
+use Rattle.run_reports.proofs.asked.mark_some.Goals as goal
 
 pub loop-at-init : goal.loop-at-init
 loop-at-init c =

@@ -1,6 +1,6 @@
 use Rattle.echo_window.specs.Laid.{laid, told}
 use Rattle.echo_window.proofs.Searching.{Goes}
-use Rattle.echo_window.proofs.search.find_linked.Given as goal
+use Rattle.echo_window.proofs.search.find_among.Given as goal
 
 -- what was found is the first of those from the last one looked at on
 abbrev pub invariant-loop-number : goal.invariant-loop-number

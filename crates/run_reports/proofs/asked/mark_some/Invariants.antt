@@ -2,7 +2,7 @@ use Rattle.std.proofs.Common.{◌≡◌, ◌<◌, ◌≤◌, ◌-◌, ◌||◌, 
 use Rattle.std.specs.List.{list_any}
 use Rattle.run_reports.specs.Reading.{is_its, is_its_at}
 use Rattle.run_reports.proofs.Listing.{blank}
-use Rattle.run_reports.proofs.asked.mark_named.Given as goal
+use Rattle.run_reports.proofs.asked.mark_some.Given as goal
 
 -- the names so far are marked, and whether there was one is known
 abbrev pub invariant-loop-at : goal.invariant-loop-at

@@ -377,11 +377,10 @@ runs 3 "read $no.1" "$folder/x.toml" "$folder/x.toml" "$folder/x.toml" "$no.1" "
 runs 3 "read $no.2" "$folder/x.toml" "$folder/x.toml" "$folder/x.toml" "$folder/x.toml" "$no.2"
 holds
 
-# One that is opened, and whose reads fail.
+# One that can be opened, and not read: no output is made for it.
 runs 3 "read $folder" $a $changes $underlay "${ports[0]}" "$folder" "${ports[2]}"
-sizes 0 0 0 0 0
 runs 3 "read $folder/out" $a $changes "$folder/out" "${ports[@]}"
-rm "$folder"/out/*
+holds
 
 # Memory that is refused: status 3. A file of 1 GiB, with room for a part of it.
 truncate -s 1G "$folder/large.toml"

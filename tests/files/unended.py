@@ -1,6 +1,7 @@
 #!/usr/bin/env python3
-"""Runs, parts and merges that are killed or interrupted at many moments: what stands in an output is the front of what the whole
-run writes there, the folder says that it didn't end, no other command takes it, and the next run says so and takes the mark away."""
+"""Runs, parts and merges that are killed or interrupted at many moments, and at each output: what stands in an output is the front
+of what the whole run writes there, each line behind its records, the folder says that it didn't end, no other command takes it, and
+the next run says so and takes the mark away."""
 import os
 import signal
 import struct
@@ -14,7 +15,10 @@ TOP = Path(__file__).resolve().parent.parent.parent
 TEP = os.environ.get("TEP", str(TOP / "tep"))
 HEADER = bytes.fromhex("4d3cb2a10200040000000000000000000000040001000000")
 MARK = "unfinished.txt"
-OUTPUTS = ["port1.pcap", "port2.pcap", "port3.pcap", "underlay.pcap", "decisions.txt"]
+CAPTURES = ["port1.pcap", "port2.pcap", "port3.pcap", "underlay.pcap"]
+OUTPUTS = [*CAPTURES, "decisions.txt"]
+EVENTS = 20_000
+SIGNALS = [signal.SIGKILL, signal.SIGINT, signal.SIGTERM]
 FAULTS = []
 
 
@@ -35,7 +39,7 @@ class Case:
     def __init__(self, path):
         self.path = path
         (path / "settings.toml").write_text((TOP / "examples" / "a.toml").read_text())
-        (path / "1.pcap").write_bytes(capture(20_000))
+        (path / "1.pcap").write_bytes(capture(EVENTS))
         for name in ("empty.pcap", "2.pcap", "3.pcap"):
             (path / name).write_bytes(HEADER)
         self.run = ["run", "-s", "settings.toml", "-u", "empty.pcap", "1.pcap", "empty.pcap", "empty.pcap"]
@@ -43,6 +47,8 @@ class Case:
             (path / name).mkdir()
             subprocess.run([TEP, *self.run, "-o", name, *words], cwd=path, check=True)
             asks(not (path / name / MARK).exists(), f"the mark stands behind the run {name}")
+        self.whole = {name: (path / "whole" / name).read_bytes() for name in OUTPUTS}
+        asks(self.whole["decisions.txt"].count(b"\n") == EVENTS, "an event has no line, or several")
         self.fresh()
 
     def fresh(self):
@@ -64,17 +70,22 @@ class Case:
             wanted = (1, "out: a run into it is under way or didn't end")
             asks((status, said[0]) == wanted, f"{what}: {words[0]} says {said}, status {status}")
 
-    def stands(self, what):
-        """Each output holds a front of what the whole run writes, and each whole line has its records."""
+    def stands(self, what, read=None):
+        """Each output holds a front of what the whole run writes, and each whole line has its records, which are of one length for
+        all events. What came out of outputs that are no files was read."""
+        held = {}
         for name in OUTPUTS:
             path = self.path / "out" / name
-            octets = path.read_bytes() if path.exists() else b""
-            whole = (self.path / "whole" / name).read_bytes()
-            asks(whole.startswith(octets), f"{what}: {name} holds something else")
+            held[name] = (read or {}).get(name) if path.is_fifo() else path.read_bytes() if path.exists() else b""
+            asks(self.whole[name].startswith(held[name]), f"{what}: {name} holds something else")
+        lines = held["decisions.txt"].count(b"\n")
+        for name in CAPTURES:
+            wanted = len(HEADER) + lines * (len(self.whole[name]) - len(HEADER)) // EVENTS
+            asks(not lines or len(held[name]) >= wanted, f"{what}: {name} lacks records of {lines} lines")
 
     def is_whole(self):
         """Whether the folder holds what the whole run writes."""
-        return all((self.path / "out" / name).read_bytes() == (self.path / "whole" / name).read_bytes() for name in OUTPUTS)
+        return all((self.path / "out" / name).read_bytes() == self.whole[name] for name in OUTPUTS)
 
     def again(self, words, what):
         """A further run says that the one before didn't end, and behind it the folder is the whole run's."""
@@ -117,6 +128,35 @@ def moments(case, words, how):
     return count
 
 
+def at_output(case, words, name, how, count):
+    """A line whose output waits for a reader, which takes so many octets: then it is stopped by a signal, or its reader goes away."""
+    case.fresh()
+    pipe = case.path / "out" / name
+    os.mkfifo(pipe)
+    started = subprocess.Popen([TEP, *words], cwd=case.path, stderr=subprocess.DEVNULL)
+    what = f"{words[0]} at {count} octets of {name} by {how.name if how else 'its reader'}"
+    with open(pipe, "rb") as reader:
+        read = reader.read(count)
+        if how:
+            started.send_signal(how)
+            read += reader.read()
+    asks(started.wait() != 0, f"{what}: it isn't stopped")
+    asks((case.path / "out" / MARK).exists(), f"{what}: no mark")
+    # Where the reader of a capture goes away, nobody knows how far what was written into it goes.
+    case.stands(what, {name: read if how or name not in CAPTURES else case.whole[name]})
+    case.is_refused(what)
+
+
+def at_outputs(case, words):
+    """The same of each output that is longer than what a pipe holds and the reader takes."""
+    names = [name for name in OUTPUTS if len(case.whole[name]) > 1_000_000]
+    asks(len(names) > 2 and "decisions.txt" in names, f"only {names} are long")
+    for name in names:
+        for how in (*SIGNALS, None):
+            for count in (1, 400_000):
+                at_output(case, words, name, how, count)
+
+
 def within(case, words):
     """While a run waits for the reader of an output, the mark stands; behind its last octet it is gone."""
     case.fresh()
@@ -146,6 +186,10 @@ def faults(case):
     words = [word if word != "1.pcap" else "none.pcap" for word in case.run]
     asks(case.ends([*words, "-o", "out"])[0] == 1, "a text is taken for a capture")
     asks(sorted(os.listdir(case.path / "out")) == before, "a run that was refused leaves a mark")
+    # A folder can be opened, and isn't read: no output is emptied for it.
+    words = [word if word != "1.pcap" else "whole" for word in case.run]
+    asks(case.ends([*words, "-o", "out"])[0] == 3, "a folder is taken for a capture")
+    asks(case.is_whole() and not (case.path / "out" / MARK).exists(), "outputs are emptied for a capture that is a folder")
     # An output at a full device, and a merge of a part with other octets.
     case.fresh()
     (case.path / "out" / "port2.pcap").symlink_to("/dev/full")
@@ -174,9 +218,10 @@ def main():
         case = Case(Path(name))
         run = [*case.run, "-o", "out"]
         merge = ["merge", "-o", "out", "one", "other"]
-        counts = {f"{words[0]} by {how.name}": moments(case, words, how) for words in (run, merge) for how in (signal.SIGKILL, signal.SIGINT)}
+        counts = {f"{words[0]} by {how.name}": moments(case, words, how) for words in (run, merge) for how in SIGNALS}
         for what, count in counts.items():
             asks(count > 0, f"{what}: none was stopped while it wrote")
+        at_outputs(case, run)
         within(case, run)
         within(case, merge)
         faults(case)

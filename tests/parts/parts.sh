@@ -471,12 +471,16 @@ lent=(--digests "$folder/digests")
 runs lent 16-4094,none "${lent[@]}" "${whole[@]}"
 is_other "a part by lent digests"
 
-# A pipe and standard input are read once, and so they are captures of a part to which digests are lent, and of no other.
+# A pipe and standard input, which can be read only once, are captures of a part too, by lent digests and by its own.
 with_changes=(--settings examples/a.toml --changes examples/changes.toml)
-runs lent 16-4094,none "${lent[@]}" "${with_changes[@]}" --underlay - "${ports[@]}" <examples/underlay.pcap
-is_other "a part of standard input by lent digests"
-runs lent 16-4094,none "${lent[@]}" "${with_changes[@]}" --underlay examples/underlay.pcap <(cat examples/port1.pcap) "${ports[@]:1}"
-is_other "a part of a pipe by lent digests"
+for words in "${lent[*]}" ""; do
+    # shellcheck disable=SC2086
+    runs lent 16-4094,none $words "${with_changes[@]}" --underlay - "${ports[@]}" <examples/underlay.pcap
+    is_other "a part of standard input, with words '$words'"
+    # shellcheck disable=SC2086
+    runs lent 16-4094,none $words "${with_changes[@]}" --underlay examples/underlay.pcap <(cat examples/port1.pcap) "${ports[@]:1}"
+    is_other "a part of a pipe, with words '$words'"
+done
 runs lent 16-4094,none "${with_changes[@]}" --underlay /dev/stdin "${ports[@]}" <examples/underlay.pcap
 is_other "a part of /dev/stdin, which is opened anew"
 
@@ -546,6 +550,18 @@ lends digests "it tells another number of octets of capture p2" "$anew" "${here[
     complain "the shard.txt of a part that was refused tells $(cat "$folder/lent/shard.txt")"
 rm -rf "$folder/lent"
 
+# reads CAPTURE PART: the part says that it read this capture of port 2
+reads() {
+    grep -qx "capture p2 $(sha256sum <"$1" | cut -d ' ' -f 1)" "$folder/$2/shard.txt" || complain "$2 says it read another capture than $1"
+}
+
+# What stands behind its last record is read, and so it is in the digest: an octet, and a record that is cut.
+runs behind 16-4094,none "${here[@]}" "${longer[@]}"
+reads "$folder/more.pcap" behind
+longer[3]=$folder/cut.pcap
+runs without 16-4094,none "${here[@]}" "${longer[@]}"
+reads "$folder/cut.pcap" without
+
 # The digest of another capture with as many octets isn't noticed by the run, but by the merge with a part that took its own.
 sed "s/^\(capture p2 [0-9]*\) .*/\1 $(sha256sum </dev/null | cut -d ' ' -f 1)/" "$folder/digests" >"$folder/others"
 runs lent 16-4094,none --digests "$folder/others" "${whole[@]}"
@@ -555,7 +571,7 @@ refused 1 "part lent: it was made from another capture p2 than the first part" m
 
 # The capture of port 1 ends behind its first record, at one second. That of port 3 goes on for ten times as many octets as a
 # pipe and the run's blocks hold, and port 2's output is a pipe: so port 1's capture was read to its end before the first
-# octet of records comes out of the pipe, and the run waits for its reader before its own end.
+# octet of records comes out of the pipe, and the run waits for its reader before its own end. What it says is of what it read.
 head -c 100 examples/port1.pcap >"$folder/short.pcap"
 tail -c +25 examples/port3.pcap >"$folder/records"
 for _ in {1..14}; do
@@ -564,21 +580,17 @@ for _ in {1..14}; do
 done
 cat <(head -c 24 examples/port3.pcap) "$folder/records" >"$folder/long.pcap"
 growing=("${a[@]}" "$folder/short.pcap" examples/port2.pcap "$folder/long.pcap")
+short=$(sha256sum <"$folder/short.pcap" | cut -d ' ' -f 1)
 mkdir "$folder/growing"
 mkfifo "$folder/growing/port2.pcap"
 ./tep run --out "$folder/growing" --segments 16-4094,none "${growing[@]}" 2>"$folder/stderr" &
 # shellcheck disable=SC2016
 timeout 60 sh -c '{ head -c 1000 && tail -c 76 examples/port1.pcap >>"$1" && cat; } <"$2" >/dev/null' \
     sh "$folder/short.pcap" "$folder/growing/port2.pcap" || complain "nothing came out of the run of a growing capture"
-wait $!
-[ $? -eq 1 ] || complain "a part is made of a capture that grew"
-[ "$(cat "$folder/stderr")" = "$folder/short.pcap: it had another number of octets when it was read again for its digest
-  wait until the capture is written, and run the part again" ] ||
-    complain "a part of a capture that grew: '$(cat "$folder/stderr")'"
-[ -e "$folder/growing/shard.txt" ] && [ ! -s "$folder/growing/shard.txt" ] ||
-    complain "the shard.txt of a part whose capture grew tells something"
+wait $! || complain "a part of a capture that grew: '$(cat "$folder/stderr")'"
+grep -qx "capture p1 $short" "$folder/growing/shard.txt" || complain "a part says that it read what it didn't"
 runs grown 1-15 "${growing[@]}"
-refused 1 "growing: a run into it is under way or didn't end" merge --out out growing grown
+refused 1 "part grown: it was made from another capture p1 than the first part" merge --out out growing grown
 
 # ---- what an earlier part left of itself goes before its outputs change
 
@@ -647,7 +659,7 @@ grep -qx 'segments all' "$folder/all/shard.txt" || complain "the part of all seg
 is_whole all
 refused 1 "more than one part has segment 1" merge --out out all one
 
-# ---- lists of segments that are none, and captures that can be read only once
+# ---- lists of segments that are none
 
 for list in "1,,2|an item of the list is empty" "0|an item of the list is no VID of 1 to 4094, no range of them and not 'none'" \
     "9-3|a range of the list ends below its begin" "1-3,2|two items of the list ask for the same" \
@@ -657,15 +669,4 @@ for list in "1,,2|an item of the list is empty" "0|an item of the list is no VID
         [ $? -eq 1 ] && [ "$(cat "$folder/stderr")" = "segments: ${list#*|}" ]
     ) || complain "segments ${list%|*}: '$(cat "$folder/stderr")'"
 done
-mkfifo "$folder/pipe"
-digests_step="  tep digest, over the same captures as files, makes the digests: tep digest -u U P1 P2 .. >digests.txt"
-./tep run --out "$folder/out" --segments 10 "${a[@]}" "$folder/pipe" examples/port2.pcap examples/port3.pcap 2>"$folder/stderr"
-[ $? -eq 1 ] || complain "a part is made of a pipe"
-[ "$(cat "$folder/stderr")" = "$folder/pipe can be read only once, and without --digests a part reads its captures twice
-$digests_step" ] || complain "$(cat "$folder/stderr")"
-./tep run --out "$folder/out" --segments 10 --settings examples/a.toml --underlay - "${ports[@]}" <examples/underlay.pcap 2>"$folder/stderr"
-[ $? -eq 1 ] || complain "a part without digests is made of standard input"
-[ "$(cat "$folder/stderr")" = "- can be read only once, and without --digests a part reads its captures twice
-$digests_step" ] || complain "$(cat "$folder/stderr")"
-
 [ "$failures" -eq 0 ]

@@ -60,7 +60,7 @@ pub(crate) fn print_echoes<'j, R: Files + Input + AllocGlobal + Print>(
     texts: &'j Texts,
     counts: &RecordCounts,
 ) -> Result<(), Failure<'static>> {
-    if names.first_read_once(rt).is_some() {
+    if names.has_read_once(rt) {
         return Ok(());
     }
     let Some(sieve) = sieve_behind(rt, names, texts) else {

@@ -84,7 +84,7 @@ fn look<R: Files + Input + AllocGlobal>(rt: &R, own: &Underlay, name: &str) -> O
     if is_read_once(rt, name) {
         return None;
     }
-    let Ok(mut capture) = open_capture(rt, name) else {
+    let Ok(mut capture) = open_capture(rt, name, false) else {
         return None;
     };
     let mut looked = Looked {

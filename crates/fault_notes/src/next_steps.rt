@@ -15,10 +15,6 @@ pub fn tell_next_step<R: Eprint>(rt: &R, line: &Line<'_>, failure: &Failure<'_>)
         Failure::Run(RunFault::Record(tap, number, _)) => tell_record(rt, line, *tap, *number),
         Failure::WriteFailed(output, fault)
             if *output != OutputFile::Stdout && fault.is_not_there() => { tell_folder(rt, line) }
-        Failure::ReadOnce(_) => tell(
-            rt,
-            "tep digest, over the same captures as files, makes the digests: tep digest -u U P1 P2 .. >digests.txt",
-        ),
         Failure::OneFile(OutputFile::Stdout, _) => tell(rt, "print into a file that no output is"),
         Failure::OneFile(..) => tell(rt, "remove one of them: it is a link of the other"),
         Failure::ReadAgain(_) => tell(rt, "give the part a folder of its own"),
@@ -90,7 +86,6 @@ fn for_digests(fault: &DigestsFailure) -> &'static str {
         DigestsFailure::Other(_) => {
             "take the digests of these captures anew with tep digest, and run each part again with them"
         }
-        DigestsFailure::Changed => "wait until the capture is written, and run the part again",
     }
 }
 

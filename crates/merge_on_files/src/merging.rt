@@ -69,7 +69,7 @@ pub fn merge<'a, R: Files + AllocGlobal>(
     let mark = Mark::of(rt.alloc(), out)?;
     mark.set(rt)?;
     drop_part(rt, out)?;
-    let mut outputs = opened.emptied(rt.alloc())?;
+    let mut outputs = opened.emptied()?;
     match merge_streams(parts.as_mut_slice(), &mut outputs.files, waits) {
         Ok(()) => match outputs.finish(rt.alloc(), failed) {
             Ok(_) => {

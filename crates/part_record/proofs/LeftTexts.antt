@@ -1,5 +1,5 @@
 -- Lines of texts that a part left: where two texts begin with them, both have the same.
-use Rattle.std.proofs.Common.{◌≡◌, ◌≢◌, ◌∙◌, sym, refl, ap, ℕ, List, [], ◌∷◌, ◌++◌, get_or, codes, Option, None, Some, IfSome, arith, append_assoc, append-nil}
+use Rattle.std.proofs.Common.{◌≡◌, ◌≢◌, ◌∙◌, sym, refl, ap, ℕ, List, [], ◌++◌, get_or, codes, Option, None, Some, IfSome, arith, append_assoc, append-nil}
 use Rattle.std.specs.Prelude.{IfNone}
 use Rattle.std.proofs.lemmas.List.{append_cancel_left}
 use Rattle.octet_sums.specs.declared.fletcher.sum.OctetSum.{OctetSum}

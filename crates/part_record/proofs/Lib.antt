@@ -6,4 +6,5 @@ pub mod Lines
 pub mod OutputText
 pub mod Reading
 pub mod RecordText
+pub mod Taking
 pub mod Turns

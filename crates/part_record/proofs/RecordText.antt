@@ -1,5 +1,5 @@
 -- A text of facts and outputs is one of theirs alone.
-use Rattle.std.proofs.Common.{◌≡◌, ◌≢◌, ◌∙◌, sym, ap, ℕ, ◌+◌, ◌<◌, ◌≤◌, List, [], ◌++◌, length, All, arith, append_assoc, append-nil}
+use Rattle.std.proofs.Common.{◌≡◌, ◌≢◌, ◌∙◌, sym, ap, ℕ, ◌+◌, ◌<◌, ◌≤◌, List, ◌++◌, length, All, arith, append_assoc}
 use Rattle.part_record.specs.Laws.{HasOneText}
 use Rattle.part_record.specs.Outputs.{AreOutputs, IsOutput, output_line, output_lines}
 use Rattle.part_record.specs.Record.{Facts, IsRecord, facts_text, text_of}

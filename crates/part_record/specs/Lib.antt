@@ -9,4 +9,5 @@ pub mod Parting
 pub mod Record
 pub mod Same
 pub mod Sum
+pub mod Taken
 pub mod Texts

@@ -1,5 +1,5 @@
 -- The text that says what a part of a run was made from and which outputs it has. It states no standard.
-use Rattle.std.specs.Prelude.{◌≡◌, ◌≢◌, ◌⊎◌, ◌<◌, ◌≤◌, ℕ, ◌+◌, ◌^◌, Bool, true, false, List, [], ◌∷◌, ◌++◌, length}
+use Rattle.std.specs.Prelude.{◌≡◌, ◌≢◌, ◌⊎◌, ◌<◌, ◌≤◌, ℕ, ◌^◌, Bool, true, false, List, [], ◌∷◌, ◌++◌, length}
 use Rattle.std.specs.Prelude.{slice_index, codes, decimal, All, Option, Some, None, IfSome, is_some}
 use Rattle.hex.specs.Hex.{encode_lower}
 use Rattle.timeline.specs.Words.{tap_word}

@@ -1,5 +1,5 @@
 -- Digests of SHA-256 (FIPS 180-4), and what they are of.
-use Rattle.std.specs.Prelude.{◌≡◌, ℕ, ◌-◌, ◌^◌, List, [], length, min, take, Result, Ok, Err}
+use Rattle.std.specs.Prelude.{◌≡◌, ℕ, ◌-◌, ◌^◌, List, [], length, min, take, Option, IfSome, Result, Ok, Err}
 use Rattle.hex.specs.Hex.{IsBytes}
 use Rattle.octet_sums.specs.Hashers.{Holds256}
 use Rattle.octet_sums.specs.declared.sha256.hasher.Sha256.{Sha256}
@@ -22,7 +22,11 @@ taken (Err fault) octets = []
 abbrev pub counted : List ℕ → ℕ
 counted octets = min (2 ^ 64 - 1) (length octets)
 
--- a hasher of SHA-256 took these octets, and this is their number
-pub record HasTaken (hasher : Sha256) (number : ℕ) (octets : List ℕ) : Type 0 where
-  pub digest : Took hasher octets
+-- where there is a hasher, it took these octets
+abbrev pub MayHaveTaken : Option Sha256 → List ℕ → Type 0
+MayHaveTaken hasher octets = IfSome hasher (λ h. Took h octets)
+
+-- and this is their number
+pub record HasTaken (hasher : Option Sha256) (number : ℕ) (octets : List ℕ) : Type 0 where
+  pub digest : MayHaveTaken hasher octets
   pub count : number ≡ counted octets

@@ -7,12 +7,12 @@
 //! run, and [`part_all`] whether parts are all of it. [`CaptureDigests`] are taken once and lent to each part, by
 //! [`digests_text`] and [`digests_of`], and [`see_octets`] says whether they may be those of captures with so many octets.
 //!
-//! On the way of octets: [`DigestInput`] takes a capture's digest and the number of its octets, and [`CountInput`] that number
-//! alone. [`SumOutput`] sums what it hands on, [`SumInput`] fails at an end with other sums than were told, and
+//! On the way of octets: [`DigestInput`] counts a capture's octets, and may take their digest, which [`digests_taken`] tells of all
+//! captures. [`SumOutput`] sums what it hands on, [`SumInput`] fails at an end with other sums than were told, and
 //! [`RecordCounts`] are counts by place.
 //!
 //! Specs to read, in order: `specs/InTurn`, `specs/Outputs`, `specs/Texts`, `specs/Record`, `specs/Fault`, `specs/Same`, `specs/Parting`,
-//! `specs/Digests`, `specs/Lent`, `specs/Sum`, `specs/Counts`.
+//! `specs/Digests`, `specs/Lent`, `specs/Sum`, `specs/Taken`, `specs/Counts`.
 //!
 //! Proved: a text is read as a record just where it is that record's text, and else a fault is told that stands there; as
 //! digests just where it is theirs, and else the first line at which it is none. Each input and output on the way hands on what
@@ -29,13 +29,12 @@
 //!
 //! Proved of what counts on the way:
 //! - `SumOutput` hands on what is written, and has the number and the sums of the octets that were taken.
-//! - `DigestInput` hands on what its input gives, with its faults. Its digest is SHA-256, as `sha2` states it, of all
-//!   octets that it handed on, with their number, and behind `finish` of all to the end.
-//! - `CountInput` hands on what its input gives, and counts those octets.
+//! - `DigestInput` hands on what its input gives, with its faults, and counts those octets. Its digest, where it takes one, is
+//!   SHA-256, as `sha2` states it, of all octets that it handed on, and behind `finish` of all to the end; so is that of each
+//!   capture whose records came by one: `digests_taken`.
 //! - `RecordCounts` has a count for each place, and `count` raises that one alone.
 #![tactic(auto)]
 
-mod count_input;
 mod digest_input;
 mod digest_lines;
 mod digests;
@@ -51,10 +50,10 @@ mod same;
 mod steps;
 mod sum_input;
 mod sum_output;
+mod taken;
 mod texts;
 mod write;
 
-pub use count_input::CountInput;
 pub use digest_input::DigestInput;
 pub use digests::{CaptureDigest, CaptureDigests, DigestsFault, digests_of, digests_text};
 pub use facts::{MOST_PORTS, PartRecord};
@@ -67,5 +66,6 @@ pub use record_counts::RecordCounts;
 pub use same::{Difference, same_run};
 pub use sum_input::SumInput;
 pub use sum_output::SumOutput;
+pub use taken::digests_taken;
 pub use texts::{ToldTexts, put_texts};
 pub use write::text_of;

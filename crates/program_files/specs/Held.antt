@@ -1,8 +1,9 @@
 -- What the files of a run hold. It states no standard.
 --     Held      of the ports' captures, of the underlay's and of the decision lines
+--     AreUnwritten      nothing was written to the outputs of a run yet
 --     AreHandedOn      the files hold all that was written
 --     AreHeld      each of some texts stands in a file
-use Rattle.std.specs.Prelude.{◌≡◌, ℕ, List, map, All, Option}
+use Rattle.std.specs.Prelude.{◌≡◌, ℕ, List, [], map, All, Option}
 use Rattle.std.specs.List.{AllZip}
 use Rattle.std.specs.Io.KnownBytes.{Keeps}
 use Rattle.pcap.specs.Block.{Block}
@@ -30,6 +31,12 @@ handed_on ports underlay decisions = record {
   underlay = underlay.written;
   decisions = decisions.written;
 }
+
+-- no block holds anything
+pub record AreUnwritten (captures : List Block) (last lines : Block) : Type 0 where
+  pub ports : All (λ (b : Block). b.held ≡ []) captures
+  pub underlay : last.held ≡ []
+  pub decisions : lines.held ≡ []
 
 -- the files hold all that was written
 pub record AreHandedOn (written held : Held) : Type 0 where

@@ -29,7 +29,6 @@ failure_status_of (failures.NoEvent name) = 1
 failure_status_of (failures.Segments fault) = 1
 failure_status_of (failures.Within text) = 1
 failure_status_of (failures.Shift text) = 1
-failure_status_of (failures.ReadOnce name) = 1
 failure_status_of (failures.Digests name fault) = 1
 failure_status_of (failures.Part folder fault) = 1
 failure_status_of (failures.Parting fault) = 1

@@ -16,12 +16,12 @@ use crate::faults::{Failure, OutputFile, WorkedFailure, read_text};
 use crate::mark::see_ended;
 use crate::outputs::path_of;
 use command_line::{STANDARD_INPUT, capture_name};
-use part_record::CountInput;
+use part_record::DigestInput;
 use pcap::kind::{FileKind, Peeked, peek};
 use pcap::stream::{Source, StdInput};
 use pcapng_input::{CaptureInput, Selection};
 use std::alloc::{AllocError, Global};
-use std::fs;
+use std::fs::{self, OpenFile};
 use std::io::{self, BufReader, Input, Read};
 use std::rt::Files;
 use timeline::Tap;
@@ -45,6 +45,19 @@ pub enum Device<F: Read + Drop, I: Read + Drop> {
     Standard(I),
 }
 
+impl<F: Read + OpenFile + Drop, I: Read + Drop> Device<F, I> {
+    /// Whether it is a folder, which can be opened, and of which no read succeeds.
+    fn is_folder(&self) -> bool {
+        match self {
+            Device::File(file) => match file.metadata() {
+                Ok(found) => found.is_dir(),
+                Err(_) => false,
+            },
+            Device::Standard(_) => false,
+        }
+    }
+}
+
 impl<F: Read + Drop, I: Read + Drop> Read for Device<F, I> {
     ghost use Rattle.program_files.specs.Device.{left_in};
 
@@ -64,8 +77,8 @@ pub type Blocks<F, I> = StdInput<BufReader<Device<F, I>>>;
 /// What a capture tells as classic pcap.
 pub type ClassicInput<'a, F, I> = CaptureInput<'a, Blocks<F, I>>;
 
-/// The records of a capture, whose octets are counted.
-pub type Capture<'a, F, I> = Source<CountInput<ClassicInput<'a, F, I>>>;
+/// The records of a capture, whose octets are counted, and whose digest may be taken.
+pub type Capture<'a, F, I> = Source<DigestInput<ClassicInput<'a, F, I>>>;
 
 /// The records of a capture whose first octets were looked at.
 pub type SeenCapture<'a, F, I> = Source<CaptureInput<'a, Peeked<Blocks<F, I>>>>;
@@ -101,6 +114,9 @@ pub fn open_blocks<'a, R: Files + Input + AllocGlobal>(
             Err(_) => return Err(Failure::Read(name)),
         }
     };
+    if device.is_folder() {
+        return Err(Failure::Read(name));
+    }
     match BufReader::with_capacity(rt.alloc(), BLOCK, device) {
         Ok(reader) => Ok(StdInput::new(reader)),
         Err(_) => Err(Failure::from(AllocError)),
@@ -264,10 +280,11 @@ pub fn read_underlay<'a, R: Files + Input + AllocGlobal>(
     }
 }
 
-/// Opens a capture. Nothing of it is read yet.
+/// Opens a capture, whose digest is taken as it is read if that is asked for. Nothing of it is read yet.
 pub fn open_capture<'a, R: Files + Input + AllocGlobal>(
     rt: &R,
     name: &'a str,
+    is_digested: bool,
 ) -> Result<Capture<'a, R::File, R::Reader>, Failure<'a>>
     ensures fresh { IfOk result (λ (capture : Stream). capture.standing ≡ New) }
     ensures told { IfOk result (λ (capture : Stream). IsOpened R.File.remaining R.Reader.remaining name.now capture.supply.rest) }
@@ -276,7 +293,11 @@ pub fn open_capture<'a, R: Files + Input + AllocGlobal>(
         Ok(input) => input,
         Err(failure) => return Err(failure),
     };
-    match Source::new(rt.alloc(), CountInput::new(input), CAPTURE_READS) {
+    match Source::new(
+        rt.alloc(),
+        DigestInput::new(input, is_digested),
+        CAPTURE_READS,
+    ) {
         Ok(capture) => Ok(capture),
         Err(error) => Err(Failure::from(error)),
     }
@@ -286,6 +307,7 @@ pub fn open_capture<'a, R: Files + Input + AllocGlobal>(
 pub fn open_captures<'a, R: Files + Input + AllocGlobal>(
     rt: &R,
     names: &[&'a str],
+    is_digested: bool,
 ) -> Result<Vec<Capture<'a, R::File, R::Reader>>, Failure<'a>>
     ensures count { IfOk result (λ captures. length captures.items ≡ length names.now) }
     ensures fresh { IfOk result (λ captures. All (λ (capture : Stream). capture.standing ≡ New) captures.items) }
@@ -293,7 +315,7 @@ pub fn open_captures<'a, R: Files + Input + AllocGlobal>(
 {
     let mut captures = Vec::new(rt.alloc());
     for name in names {
-        let capture = match open_capture(rt, *name) {
+        let capture = match open_capture(rt, *name, is_digested) {
             Ok(capture) => capture,
             Err(failure) => return Err(failure),
         };

@@ -45,18 +45,9 @@ impl<'a> Names<'_, 'a> {
             && is_regular_file(rt, self.underlay)
     }
 
-    /// The first capture that can be read only once, the ports' rising and the underlay's last.
-    pub fn first_read_once<R: Files>(self, rt: &R) -> Option<&'a str> {
-        for name in self.ports {
-            if is_read_once(rt, *name) {
-                return Some(*name);
-            }
-        }
-        if is_read_once(rt, self.underlay) {
-            Some(self.underlay)
-        } else {
-            None
-        }
+    /// Whether a capture can be read only once.
+    pub fn has_read_once<R: Files>(self, rt: &R) -> bool {
+        self.ports.iter().any(|name| is_read_once(rt, *name)) || is_read_once(rt, self.underlay)
     }
 
     /// Adds the files that are read under these names, as far as they are there.

@@ -19,6 +19,13 @@ impl<F: Write + Drop> OutputDevice<F> {
         OutputDevice { file, fault: None }
     }
 
+    /// The file.
+    pub fn file(&self) -> &F
+        ensures { result.now ≡ self.now.file }
+    {
+        &self.file
+    }
+
     /// What the system told of the last write that failed and wasn't tried again.
     pub fn fault(&self) -> Option<SystemFault> {
         self.fault

@@ -1,10 +1,9 @@
 //! The files that a run writes.
 //!
-//! All are opened before the first is emptied. Where the folder doesn't exist the first of them can't be written: status 3, and
-//! nothing else stands on disk.
-ghost use Rattle.std.specs.Prelude.{◌≡◌, IfOk, length};
-ghost use Rattle.pcap.specs.Block.{told};
-ghost use Rattle.program_files.specs.Held.{AreHeld, written};
+//! All are opened, and all memory for them is asked for, before the first is emptied. Where the folder doesn't exist the first of
+//! them can't be written: status 3, and nothing else stands on disk.
+ghost use Rattle.std.specs.Prelude.{◌≡◌, [], IfOk, length};
+ghost use Rattle.program_files.specs.Held.{AreHeld, AreUnwritten, IsHeld, written};
 
 use crate::apart::{Apart, see_open};
 use crate::faults::{Failure, OutputFile};
@@ -68,13 +67,15 @@ pub struct OutputFiles<F: Write + Drop> {
     pub part_file: Option<F>,
 }
 
-/// The same files, opened, with what stood in them.
+/// The same files, opened, with what stood in them. They are written in blocks: captures of 64 KiB, and decision lines of 128.
 #[derive(Drop)]
-pub struct Opened<F: Drop> {
-    pub ports: Vec<F>,
-    underlay: F,
-    decisions: F,
+pub struct Opened<F: Write + Drop> {
+    ports: Vec<Written<F>>,
+    underlay: Written<F>,
+    decisions: Written<F>,
     part_file: Option<F>,
+    /// Room for the captures of the ports once they are empty.
+    emptied: Vec<Sink<Written<F>>>,
 }
 
 /// Refuses an output that is one of the files that are read, since to write it would be to cut what is still to be read, and one
@@ -158,11 +159,13 @@ pub fn open_outputs<R: Files + AllocGlobal>(
     is_part: bool,
     count: usize,
 ) -> Result<Opened<R::File>, Failure<'static>>
-    ensures { IfOk result (λ opened. length opened.ports.items ≡ count) }
+    ensures count { IfOk result (λ opened. length opened.ports.items ≡ count) }
+    ensures unwritten { IfOk result (λ opened. AreUnwritten opened.ports.items opened.underlay opened.decisions) }
+    ensures room { IfOk result (λ opened. opened.emptied.items ≡ []) }
 {
     let mut ports = Vec::new(rt.alloc());
     for index in 0..count {
-        let file = match open(rt, folder, OutputFile::Port(index + 1)) {
+        let file = match open_written(rt, folder, OutputFile::Port(index + 1), is_part) {
             Ok(file) => file,
             Err(failure) => return Err(failure),
         };
@@ -170,11 +173,11 @@ pub fn open_outputs<R: Files + AllocGlobal>(
             return Err(Failure::from(AllocError));
         }
     }
-    let underlay = match open(rt, folder, OutputFile::Underlay) {
+    let underlay = match open_written(rt, folder, OutputFile::Underlay, is_part) {
         Ok(file) => file,
         Err(failure) => return Err(failure),
     };
-    let decisions = match open(rt, folder, OutputFile::Decisions) {
+    let decisions = match open_written(rt, folder, OutputFile::Decisions, is_part) {
         Ok(file) => file,
         Err(failure) => return Err(failure),
     };
@@ -186,12 +189,47 @@ pub fn open_outputs<R: Files + AllocGlobal>(
     } else {
         None
     };
-    Ok(Opened {
-        ports,
-        underlay,
-        decisions,
-        part_file,
-    })
+    match Vec::with_capacity(rt.alloc(), count) {
+        Ok(emptied) => Ok(Opened {
+            ports,
+            underlay,
+            decisions,
+            part_file,
+            emptied,
+        }),
+        Err(error) => Err(Failure::from(error)),
+    }
+}
+
+/// Opens an output that is written in blocks, and summed if a part writes it.
+fn open_written<R: Files + AllocGlobal>(
+    rt: &R,
+    folder: &str,
+    output: OutputFile,
+    is_part: bool,
+) -> Result<Written<R::File>, Failure<'static>>
+    ensures { IfOk result (λ written. written.held ≡ []) }
+{
+    let file = match open(rt, folder, output) {
+        Ok(file) => file,
+        Err(failure) => return Err(failure),
+    };
+    let device = StdOutput::new(OutputDevice::new(file));
+    let block = match output {
+        OutputFile::Decisions => LINES_BLOCK,
+        _ => BLOCK,
+    };
+    match BlockOutput::new(rt.alloc(), SumOutput::new(device, is_part), block) {
+        Ok(written) => Ok(written),
+        Err(error) => Err(Failure::from(error)),
+    }
+}
+
+/// The file that an output is written into.
+fn file_of<F: Write + Drop>(written: &Written<F>) -> &F
+    ensures { F.contents result.now ≡ written.now.written }
+{
+    written.output().output().writer().file()
 }
 
 /// Opens the file of the decision lines as objects, where they are to be written so, and makes it where it isn't there. What
@@ -231,25 +269,26 @@ fn open<R: Files + AllocGlobal>(
         .map_err(|error| Failure::writing(output, &error))
 }
 
-impl<F: OpenFile + Drop> Opened<F> {
+impl<F: Write + OpenFile + Drop> Opened<F> {
     /// Refuses two of the files that are one: where a link led nowhere, the file wasn't there to be asked before it was opened.
     pub fn see_apart(&self, alloc: Global) -> Result<(), Failure<'static>> {
         let mut others = FoundFiles::none(alloc);
-        for (index, file) in self.ports.iter().enumerate() {
-            see_open(&mut others, file, OutputFile::Port(index.saturating_add(1)))?;
+        for (index, port) in self.ports.iter().enumerate() {
+            let output = OutputFile::Port(index.saturating_add(1));
+            see_open(&mut others, file_of(port), output)?;
         }
-        see_open(&mut others, &self.underlay, OutputFile::Underlay)?;
-        see_open(&mut others, &self.decisions, OutputFile::Decisions)?;
+        see_open(&mut others, file_of(&self.underlay), OutputFile::Underlay)?;
+        see_open(&mut others, file_of(&self.decisions), OutputFile::Decisions)?;
         match &self.part_file {
             Some(file) => see_open(&mut others, file, OutputFile::PartRecord),
             None => Ok(()),
         }
     }
-}
 
-impl<F: Write + OpenFile + Drop> Opened<F> {
-    /// Empties the files. They are written in blocks: captures of 64 KiB, and decision lines of 128 KiB.
-    pub fn emptied(self, alloc: Global) -> Result<OutputFiles<F>, Failure<'static>>
+    /// Empties the files, the decision lines first, which tell of the captures. No memory is asked for any more.
+    pub fn emptied(self) -> Result<OutputFiles<F>, Failure<'static>>
+        requires unwritten { AreUnwritten self.ports.items self.underlay self.decisions }
+        requires room { self.emptied.items ≡ [] }
         ensures count { IfOk result (λ outputs. length outputs.files.ports ≡ length self.ports.items) }
         ensures in_files { IfOk result (λ outputs. AreHeld F.contents (written outputs.files)) }
     {
@@ -258,6 +297,7 @@ impl<F: Write + OpenFile + Drop> Opened<F> {
             underlay,
             decisions,
             part_file,
+            emptied: mut ports,
         } = self;
         // A part that stops says of nothing that it was made from it.
         if let Some(file) = &part_file {
@@ -265,33 +305,22 @@ impl<F: Write + OpenFile + Drop> Opened<F> {
                 return Err(Failure::writing(OutputFile::PartRecord, &error));
             }
         }
-        let is_part = part_file.is_some();
-        let mut ports = Vec::new(alloc);
+        if let Err(failure) = empty(&decisions, OutputFile::Decisions) {
+            return Err(failure);
+        }
         for file in files {
-            let output = OutputFile::Port(ports.len() + 1);
-            let written = match empty(alloc, file, output, BLOCK, is_part) {
-                Ok(written) => written,
-                Err(failure) => return Err(failure),
-            };
-            if ports.push(Sink::new(written)).is_err() {
+            if let Err(failure) = empty(&file, OutputFile::Port(ports.len() + 1)) {
+                return Err(failure);
+            }
+            if ports.push(Sink::new(file)).is_err() {
                 return Err(Failure::from(AllocError));
             }
         }
-        let underlay = match empty(alloc, underlay, OutputFile::Underlay, BLOCK, is_part) {
-            Ok(written) => Sink::new(written),
-            Err(failure) => return Err(failure),
-        };
-        match empty(
-            alloc,
-            decisions,
-            OutputFile::Decisions,
-            LINES_BLOCK,
-            is_part,
-        ) {
-            Ok(decisions) => {
+        match empty(&underlay, OutputFile::Underlay) {
+            Ok(()) => {
                 let files = RunOutputs {
                     ports,
-                    underlay,
+                    underlay: Sink::new(underlay),
                     decisions,
                 };
                 Ok(OutputFiles { files, part_file })
@@ -301,23 +330,16 @@ impl<F: Write + OpenFile + Drop> Opened<F> {
     }
 }
 
-/// Empties a file, which is written in blocks, and summed if a part writes it.
+/// Empties an output.
 fn empty<F: Write + OpenFile + Drop>(
-    alloc: Global,
-    file: F,
+    written: &Written<F>,
     output: OutputFile,
-    block: usize,
-    is_part: bool,
-) -> Result<Written<F>, Failure<'static>>
-    ensures { IfOk result (λ written. told written ≡ F.contents file) }
+) -> Result<(), Failure<'static>>
+    ensures { IsHeld F.contents written.now.written }
 {
-    if let Err(error) = cut(&file) {
-        return Err(Failure::writing(output, &error));
-    }
-    let device = StdOutput::new(OutputDevice::new(file));
-    match BlockOutput::new(alloc, SumOutput::new(device, is_part), block) {
-        Ok(written) => Ok(written),
-        Err(error) => Err(Failure::from(error)),
+    match cut(file_of(written)) {
+        Ok(()) => Ok(()),
+        Err(error) => Err(Failure::writing(output, &error)),
     }
 }
 

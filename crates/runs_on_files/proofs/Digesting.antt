@@ -5,7 +5,9 @@ use Rattle.std.proofs.lemmas.List.{take_more}
 use Rattle.std.proofs.lemmas.Slice.Zip.{all_zipped_more}
 use Rattle.std.specs.Prelude.{IfSome, IsOk, OnOk, Result, Ok, Err}
 use Rattle.std.specs.Io.KnownBytes.{Consumes, IsAtEnd}
+use Rattle.octet_sums.specs.declared.sha256.hasher.Sha256.{Sha256}
 use Rattle.part_record.specs.Digests.{digest_of}
+use Rattle.part_record.specs.Sum.{HasTaken}
 use Rattle.part_record.specs.declared.digests.CaptureDigest.{CaptureDigest}
 use Rattle.runs_on_files.specs.Digests.{AreDigestsOf, IsDigestOf}
 
@@ -13,6 +15,16 @@ pub whole_digest : (told left : Option (List ℕ)) (rest : List ℕ) (digest : C
 whole_digest None left rest digest h end is = tt
 whole_digest (Some octets) None rest digest h end is = absurd h
 whole_digest (Some octets) (Some left) rest digest h end is = is ∙ ap digest_of (sym (h ∙ ap (λ (xs : List ℕ). rest ++ xs) end ∙ append-nil rest))
+
+-- the digest of an input that took nothing before
+pub finished_digest : (told left : Option (List ℕ)) (old new : Option Sha256) (before behind : ℕ) (digest : CaptureDigest)
+    → HasTaken old before []
+    → ((octets : List ℕ) → HasTaken old before octets → (rest : List ℕ) × Consumes told left rest × HasTaken new behind (octets ++ rest))
+    → IsAtEnd left → ((octets : List ℕ) → HasTaken new behind octets → digest ≡ digest_of octets)
+    → IfSome told (λ octets. digest ≡ digest_of octets)
+finished_digest told left old new before behind digest none took end is =
+    let all = took [] none in
+    whole_digest told left all.0 digest all.1 end (is all.0 all.2)
 
 -- where a call succeeds, what it says of that holds
 pub on_ok : {T E : Type 0} (result : Result T E) (P : Type 0) → IsOk result → OnOk result P → P

@@ -71,13 +71,16 @@ fn take_digest<'a, R: Files + Input + AllocGlobal>(
         Ok(input) => input,
         Err(failure) => return Err(failure),
     };
-    let mut digested = DigestInput::new(input);
-    match digested.finish(CAPTURE_READS) {
-        Ok(digest) => Ok(digest),
-        Err(_) => match digested.input().fault() {
+    let mut digested = DigestInput::new(input, true);
+    if digested.finish(CAPTURE_READS).is_err() {
+        return match digested.input().fault() {
             Some(fault) => Err(Failure::Pcapng(tap, fault)),
             None => Err(Failure::Read(name)),
-        },
+        };
+    }
+    match digested.digest() {
+        Some(digest) => Ok(digest),
+        None => unreachable!(),
     }
 }
 

@@ -1,6 +1,7 @@
 //! What a run leaves besides its outputs.
 use crate::outbound::{Outbound, outbound_of};
 use crate::run_captures::{RunCaptures, cut_taps, octets_read};
+use part_record::{CaptureDigests, digests_taken};
 use program_files::PartRecordFile;
 use std::alloc::{AllocError, Global};
 use std::io::Read;
@@ -17,6 +18,8 @@ pub(crate) struct Done<F: Drop> {
     pub(crate) ports: Vec<u64>,
     /// And how many that of the underlay.
     pub(crate) underlay: u64,
+    /// The digests of these octets, where they were taken.
+    pub(crate) digests: Option<CaptureDigests>,
     /// The empty file in which a part is to say what it was made from, and the sums of its outputs.
     pub(crate) part_file: Option<PartRecordFile<F>>,
 }
@@ -35,6 +38,7 @@ pub(crate) fn done_on<F: Read + Drop, I: Read + Drop>(
         outbound,
         ports: counts,
         underlay: captures.underlay.input().octets(),
+        digests: digests_taken(captures.ports.as_slice(), &captures.underlay),
         part_file,
     })
 }

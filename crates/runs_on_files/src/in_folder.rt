@@ -14,8 +14,9 @@ use std::io::Input;
 use std::rt::Files;
 
 /// Opens the outputs of so many ports and empties them, where none of them is a file that is read, another output or what is
-/// printed into, as many files can be open and no capture that can be looked at begins as none does. The folder is marked before
-/// as one whose run isn't done, and what an earlier part left besides is taken away.
+/// printed into, as many files can be open, there is memory for them and no capture that can be looked at begins as none does. The
+/// folder is marked before as one whose run isn't done, and what an earlier part left besides is taken away; then the lines are
+/// emptied, before the captures, of which they tell.
 pub(crate) fn prepare_outputs<'a, R: Files + Input + AllocGlobal>(
     rt: &R,
     names: Names<'_, 'a>,
@@ -40,6 +41,6 @@ pub(crate) fn prepare_outputs<'a, R: Files + Input + AllocGlobal>(
         drop_part(rt, folder.name)?;
     }
     empty_objects(objects)?;
-    let outputs = opened.emptied(rt.alloc())?;
+    let outputs = opened.emptied()?;
     Ok(outputs)
 }

@@ -38,6 +38,13 @@ pub struct ListedPart<'s> {
     pub both: Option<u64>,
 }
 
+impl Job<'_, '_> {
+    /// Whether the digests of its captures are taken as they are read: of a part that is written and to which none are lent.
+    pub(crate) fn takes_digests(self) -> bool {
+        self.folder.is_some() && self.scope.is_part() && self.names.digests.is_none()
+    }
+}
+
 impl Scope<'_> {
     /// Whether it is a part.
     pub(crate) fn is_part(self) -> bool {

@@ -9,9 +9,10 @@
 //!
 //! Proved: each function is safe and ends. A run that is done opened captures of its names, and what its files hold more than
 //! before is what comes out of the run of its texts and of these captures, octet for octet, wherever files tell what they have
-//! left and what they hold. The digests of captures are those of what captures of their names tell, and those that a part says
-//! it was made from, its own or lent, tell as many octets of each capture as its run read. What a file of the system, a pipe or
-//! a terminal holds isn't proved.
+//! left and what they hold. The digests of captures that are printed are those of what captures of their names tell. Those that
+//! a part says it was made from were taken of the octets that the inputs of its captures handed on, and no others; or they are
+//! lent, and tell as many octets of each capture as its run read. What a file of the system, a pipe or a terminal holds isn't
+//! proved.
 //!
 //! Proved besides:
 //! - A run that is done opened captures of its names, of each port its own, and of the underlay (`AreOpened`,

@@ -1,25 +1,25 @@
 //! Parts of a run: some of its segments, and what they were made from.
-ghost use Rattle.std.specs.Prelude.{◌≡◌, IfOk, None, OnErr, OnOk};
+ghost use Rattle.std.specs.Prelude.{◌≡◌, IfOk, IsNone, IsSome, None, OnErr, OnOk, Some};
 ghost use Rattle.part_record.specs.Lent.{HaveOctets};
 
-use crate::digests::{lent_digests, take_digests};
+use crate::digests::lent_digests;
 use crate::done::Done;
 use crate::job::{Job, ListedPart, Scope};
 use crate::outbound::Outbound;
 use arrayvec::ArrayVec;
 use capture_run::RunFault;
 use part_record::{
-    CaptureDigests, LentFault, MOST_PORTS, OutputFacts, PartRecord, ToldOutputs, ToldTexts,
-    put_texts, see_octets, text_of,
+    CaptureDigests, MOST_PORTS, OutputFacts, PartRecord, ToldOutputs, ToldTexts, put_texts,
+    see_octets, text_of,
 };
 use program_files::{
-    Destination, DigestsFailure, Failure, Mark, Names, OutputFile, OutputSums, PartLines,
-    PartRecordFile, count_lines, leave_text,
+    Destination, DigestsFailure, Failure, Mark, OutputFile, OutputSums, PartLines, PartRecordFile,
+    count_lines, leave_text,
 };
 use segment_set::SegmentSet;
 use sha2::{Digest, Sha256};
 use std::alloc::{AllocError, Global};
-use std::io::{Input, Write};
+use std::io::Write;
 use std::rt::Files;
 use text_calls::tap_of;
 use timeline::Tap;
@@ -99,7 +99,7 @@ impl<F: Write + Drop> Ran<F> {
 }
 
 /// What a run leaves that is done: of a part that is written also what it was made from, with the digests that were lent to it.
-pub(crate) fn ran_of<'a, R: Files + Input + AllocGlobal>(
+pub(crate) fn ran_of<'a, R: Files + AllocGlobal>(
     rt: &R,
     job: Job<'_, 'a>,
     lent: Option<(&'a str, CaptureDigests)>,
@@ -110,6 +110,7 @@ pub(crate) fn ran_of<'a, R: Files + Input + AllocGlobal>(
         outbound,
         ports,
         underlay,
+        digests: taken,
         part_file,
     } = done;
     let mark = mark_of(rt.alloc(), job.folder)?;
@@ -120,7 +121,7 @@ pub(crate) fn ran_of<'a, R: Files + Input + AllocGlobal>(
     let (Some(folder), Some(part_file)) = (job.folder, part_file) else {
         return Ok(Ran::whole(rt.alloc(), cut, outbound, mark));
     };
-    let digests = match digests_behind(rt, job.names, lent, ports.as_slice(), underlay) {
+    let digests = match digests_behind(lent, taken, ports.as_slice(), underlay) {
         Ok(digests) => digests,
         Err(failure) => return Err(failure),
     };
@@ -208,8 +209,7 @@ fn write_part_record<F: Write + Drop>(file: F, text: &[u8]) -> Result<(), Failur
     }
 }
 
-/// The digests that are lent to a part that is written, with the name of their file, where there are any; else its captures can
-/// be read twice. To all else none are lent.
+/// The digests that are lent to a part that is written, with the name of their file, where there are any. To all else none are.
 pub(crate) fn lent_to<'a, R: Files + AllocGlobal>(
     rt: &R,
     job: Job<'_, 'a>,
@@ -223,53 +223,28 @@ pub(crate) fn lent_to<'a, R: Files + AllocGlobal>(
             Ok(digests) => Ok(Some((name, digests))),
             Err(failure) => Err(failure),
         },
-        None => match names.first_read_once(rt) {
-            Some(name) => Err(Failure::ReadOnce(name)),
-            None => Ok(None),
-        },
+        None => Ok(None),
     }
 }
 
-/// The digests of captures behind a run that read so many octets of each: those that are lent or, where none are, their own;
-/// either have to tell the same numbers.
-fn digests_behind<'a, R: Files + Input + AllocGlobal>(
-    rt: &R,
-    names: Names<'_, 'a>,
+/// The digests of captures behind a run that read so many octets of each: those that are lent, which have to tell the same numbers,
+/// or else those that were taken as it read.
+fn digests_behind<'a>(
     lent: Option<(&'a str, CaptureDigests)>,
+    taken: Option<CaptureDigests>,
     ports: &[u64],
     underlay: u64,
 ) -> Result<CaptureDigests, Failure<'a>>
-    ensures { IfOk result (λ digests. HaveOctets digests.ports.items digests.underlay ports.now underlay) }
+    ensures lent { IsSome lent.entry → IfOk result (λ digests. HaveOctets digests.ports.items digests.underlay ports.now underlay) }
+    ensures taken { IsNone lent.entry → IfOk result (λ digests. taken ≡ Some digests) }
 {
-    match lent {
-        Some((name, digests)) => match see_octets(&digests, ports, underlay) {
+    match (lent, taken) {
+        (Some((name, digests)), _) => match see_octets(&digests, ports, underlay) {
             Ok(()) => Ok(digests),
             Err(fault) => Err(Failure::Digests(name, DigestsFailure::Other(fault))),
         },
-        None => own_digests(rt, names, ports, underlay),
-    }
-}
-
-/// The digests of captures of which a run read so many octets each, from a second reading that finds as many.
-fn own_digests<'a, R: Files + Input + AllocGlobal>(
-    rt: &R,
-    names: Names<'_, 'a>,
-    ports: &[u64],
-    underlay: u64,
-) -> Result<CaptureDigests, Failure<'a>>
-    ensures { IfOk result (λ digests. HaveOctets digests.ports.items digests.underlay ports.now underlay) }
-{
-    let digests = match take_digests(rt, names.underlay, names.ports) {
-        Ok(digests) => digests,
-        Err(failure) => return Err(failure),
-    };
-    match see_octets(&digests, ports, underlay) {
-        Ok(()) => Ok(digests),
-        Err(LentFault::Octets(tap)) => Err(Failure::Digests(
-            names.capture(tap),
-            DigestsFailure::Changed,
-        )),
-        Err(LentFault::Ports) => Err(Failure::Run(RunFault::PortCount)),
+        (None, Some(digests)) => Ok(digests),
+        (None, None) => Err(Failure::Write(OutputFile::PartRecord)),
     }
 }
 

@@ -1,5 +1,5 @@
 //! The captures of a run.
-use part_record::CountInput;
+use part_record::DigestInput;
 use pcapng_input::PcapngFault;
 use program_files::{Capture, ClassicInput, Failure, Names};
 use std::alloc::{AllocError, Global};
@@ -8,8 +8,8 @@ use stream_run::{Captures, StreamFault};
 use text_calls::{failure_of_run, tap_of};
 use timeline::Tap;
 
-/// The captures of a run on files, whose octets are counted.
-pub type RunCaptures<'a, F, I> = Captures<CountInput<ClassicInput<'a, F, I>>>;
+/// The captures of a run on files, whose octets are counted, and whose digests may be taken.
+pub type RunCaptures<'a, F, I> = Captures<DigestInput<ClassicInput<'a, F, I>>>;
 
 /// Why a run on these captures stopped.
 pub(crate) fn failure_of<'a, F: Read + Drop, I: Read + Drop>(

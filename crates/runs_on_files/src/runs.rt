@@ -35,9 +35,8 @@ struct ReadJob<'j, 'a> {
 /// Runs on captures, and writes what comes out into a folder as it comes, where one is named. Someone looks on, who sees the same
 /// run each way. What a part that is written was made from is still to be written.
 ///
-/// Where no digests of the captures are lent to such a part, these are read a second time for them, so that none of them may be
-/// one that can be read only once. Each way the captures have to have as many octets as the digests tell, so that a part of a
-/// capture that grew or was cut in the meantime is refused. Else captures are read once.
+/// Captures are read once. Where no digests of them are lent to such a part, these are taken of the octets as it reads them, up to
+/// the end that it finds; where they are, the captures have to have as many octets as they tell.
 ///
 /// Where the settings, the changes or the number of captures are refused, an output is one of the files that are read, or more
 /// files would be open at once than the system lets be (of less than 200 that isn't tried), nothing is made or written; where
@@ -88,11 +87,12 @@ fn run_on_names<'a, R: Files + Input + AllocGlobal, S: Sieve, T: Watch>(
         (segments_run job.entry.scope) (settings_in job.entry.texts.now.settings.items)
         (changes_in job.entry.texts.now.changes.items) job.entry.names.ports.now job.entry.names.underlay.now)) }
 {
-    let underlay = match open_capture(rt, job.names.underlay) {
+    let is_digested = job.takes_digests();
+    let underlay = match open_capture(rt, job.names.underlay, is_digested) {
         Ok(underlay) => underlay,
         Err(failure) => return Err(failure),
     };
-    let ports = match open_captures(rt, job.names.ports) {
+    let ports = match open_captures(rt, job.names.ports, is_digested) {
         Ok(ports) => ports,
         Err(failure) => return Err(failure),
     };

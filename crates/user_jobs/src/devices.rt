@@ -6,7 +6,7 @@ ghost use Rattle.stream_run.specs.Begun.{IsUnread};
 use crate::digest::{Digest, DigestOutput};
 use crate::fault::{JobFault, Stage};
 use crate::traffic::Captures;
-use part_record::CountInput;
+use part_record::DigestInput;
 use pcap::stream::{BlockOutput, Output, Sink, Source};
 use pcapng_input::{CaptureInput, Selection};
 use segment_set::SegmentSet;
@@ -23,20 +23,21 @@ pub const BLOCK: usize = 65_536;
 pub const READS: u64 = 1 << 40;
 
 /// A capture as the program opens it, but for the file.
-pub type Device<'a> = CountInput<CaptureInput<'a, Pieces<'a>>>;
+pub type Device<'a> = DigestInput<CaptureInput<'a, Pieces<'a>>>;
 
 pub type Capture<'a> = Source<Device<'a>>;
 
-/// Opens a capture. Nothing of it is read yet.
+/// Opens a capture, whose digest is taken as it is read if that is asked for. Nothing of it is read yet.
 pub fn open<'a>(
     alloc: Global,
     octets: &'a [u8],
     selection: Selection<'a>,
+    is_digested: bool,
 ) -> Result<Capture<'a>, AllocError>
     ensures { IfOk result (λ (capture : Stream). capture.standing ≡ New) }
 {
     let input = CaptureInput::new(alloc, in_pieces(octets, BLOCK, 0), selection, READS)?;
-    Source::new(alloc, CountInput::new(input), READS)
+    Source::new(alloc, DigestInput::new(input, is_digested), READS)
 }
 
 /// Opens the captures of so many ports.
@@ -44,13 +45,14 @@ pub fn open_all<'a>(
     alloc: Global,
     captures: &'a Captures,
     count: usize,
+    is_digested: bool,
 ) -> Result<Vec<Capture<'a>>, AllocError>
     ensures count { IfOk result (λ sources. length sources.items ≡ count) }
     ensures fresh { IfOk result (λ sources. All (λ (source : Stream). source.standing ≡ New) sources.items) }
 {
     let mut sources = Vec::new(alloc);
     for number in 0..count {
-        let source = open(alloc, captures.text(number), Selection::All)?;
+        let source = open(alloc, captures.text(number), Selection::All, is_digested)?;
         sources.push(source)?;
     }
     Ok(sources)
@@ -67,7 +69,7 @@ pub fn open_interfaces<'a>(
 {
     let mut sources = Vec::new(alloc);
     for number in 0..count {
-        let source = open(alloc, text, Selection::Number(number))?;
+        let source = open(alloc, text, Selection::Number(number), false)?;
         sources.push(source)?;
     }
     Ok(sources)

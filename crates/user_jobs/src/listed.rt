@@ -101,8 +101,8 @@ fn told_run(
         reports,
         counts: None,
     };
-    let ports = open_all(alloc, captures, PORTS)?;
-    let underlay = open(alloc, captures.underlay(), Selection::All)?;
+    let ports = open_all(alloc, captures, PORTS, false)?;
+    let underlay = open(alloc, captures.underlay(), Selection::All, false)?;
     run(alloc, digest, settings, &[], ports, underlay, &mut onlooker)?;
     add_told(digest, onlooker)
 }

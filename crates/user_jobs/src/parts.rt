@@ -1,4 +1,4 @@
-//! A run in four parts: digests of the captures, the parts, and the merge.
+//! A run in four parts: the parts, of which the first takes the digests of the captures, and the merge.
 ghost use Rattle.std.specs.Prelude.{◌≡◌, ◌≤◌, IfOk, length};
 
 use crate::devices::{BLOCK, READS, open, open_all};
@@ -6,15 +6,12 @@ use crate::digest::{Digest, DigestOutput};
 use crate::draws::Draws;
 use crate::fault::{JobFault, Stage};
 use crate::traffic::{Captures, PORTS, Traffic, switch_settings};
-use arrayvec::ArrayVec;
 use line_stream::Lines;
 use part_lines::{LineFacts, read_line};
 use part_merge::{Part, PartCapture, merge_streams};
-use part_record::{
-    CaptureDigest, CaptureDigests, DigestInput, MOST_PORTS, digests_of, digests_text,
-};
+use part_record::{CaptureDigests, digests_of, digests_taken, digests_text};
 use pcap::stream::{BlockOutput, Sink, Source};
-use pcapng_input::{CaptureInput, Selection};
+use pcapng_input::Selection;
 use segment_set::SegmentSet;
 use std::alloc::{AllocError, Global};
 use stream_run::{
@@ -31,6 +28,8 @@ struct Written {
     ports: Vec<Vec<u8>>,
     underlay: Vec<u8>,
     decisions: Vec<u8>,
+    /// Those of the captures, where it took them.
+    digests: Option<CaptureDigests>,
 }
 
 /// Hours of a switch in four parts each.
@@ -58,13 +57,16 @@ fn in_parts(
     settings: &[u8],
     captures: &Captures,
 ) -> Result<(), JobFault> {
-    add_digests(alloc, digest, captures)?;
     let mut written = Vec::new(alloc);
     for list in LISTS {
         let Ok(segments) = SegmentSet::parse(list) else {
             return Err(JobFault::Failed(Stage::Segments));
         };
-        let part = run_part(alloc, settings, captures, &segments)?;
+        let is_first = written.is_empty();
+        let part = run_part(alloc, settings, captures, &segments, is_first)?;
+        if is_first {
+            add_digests(alloc, digest, &part.digests)?;
+        }
         digest.add_number(count_events(alloc, part.decisions.as_slice())?);
         written.push(part)?;
     }
@@ -75,30 +77,20 @@ fn in_parts(
     merge(alloc, digest, written.as_slice())
 }
 
-/// Takes the digests of captures, which are written and read back.
-fn add_digests(alloc: Global, digest: &mut Digest, captures: &Captures) -> Result<(), JobFault> {
-    let mut ports = ArrayVec::<CaptureDigest, MOST_PORTS>::new();
-    for port in 0..PORTS {
-        let _ = ports.try_push(digest_of(alloc, captures.text(port))?);
-    }
-    let digests = CaptureDigests {
-        ports,
-        underlay: digest_of(alloc, captures.underlay())?,
+/// Adds the digests of captures, which are written and read back.
+fn add_digests(
+    alloc: Global,
+    digest: &mut Digest,
+    digests: &Option<CaptureDigests>,
+) -> Result<(), JobFault> {
+    let Some(digests) = digests else {
+        return Err(JobFault::Failed(Stage::Digests));
     };
-    let text = digests_text(alloc, &digests)?;
+    let text = digests_text(alloc, digests)?;
     digest.add(text.as_slice());
     match str::from_utf8(text.as_slice()) {
         Ok(text) if digests_of(text).is_ok() => Ok(()),
         _ => Err(JobFault::Failed(Stage::Digests)),
-    }
-}
-
-/// The digest of a capture.
-fn digest_of(alloc: Global, capture: &[u8]) -> Result<CaptureDigest, JobFault> {
-    let input = CaptureInput::new(alloc, in_pieces(capture, BLOCK, 0), Selection::All, READS)?;
-    match DigestInput::new(input).finish(READS) {
-        Ok(digest) => Ok(digest),
-        Err(_) => Err(JobFault::Failed(Stage::Digests)),
     }
 }
 
@@ -125,16 +117,17 @@ fn octets_of(output: BlockOutput<Room>) -> Vec<u8> {
     output.into_inner().octets
 }
 
-/// Runs some segments.
+/// Runs some segments, and takes the digests of the captures if that is asked for.
 fn run_part(
     alloc: Global,
     settings: &[u8],
     captures: &Captures,
     segments: &SegmentSet,
+    is_digested: bool,
 ) -> Result<Written, JobFault> {
     let mut read = RunCaptures {
-        ports: open_all(alloc, captures, PORTS)?,
-        underlay: open(alloc, captures.underlay(), Selection::All)?,
+        ports: open_all(alloc, captures, PORTS, is_digested)?,
+        underlay: open(alloc, captures.underlay(), Selection::All, is_digested)?,
         may_wait: false,
     };
     let mut outputs = RunOutputs {
@@ -175,6 +168,7 @@ fn run_part(
         ports: texts,
         underlay: octets_of(outputs.underlay.into_inner()),
         decisions: octets_of(outputs.decisions),
+        digests: digests_taken(read.ports.as_slice(), &read.underlay),
     })
 }
 

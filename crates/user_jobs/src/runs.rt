@@ -26,8 +26,8 @@ pub fn switch_hours(
     let mut traffic = Traffic::new(alloc, draws, STATIONS)?;
     for _round in 0..rounds {
         traffic.put(&mut captures, events);
-        let ports = open_all(alloc, &captures, PORTS)?;
-        let underlay = open(alloc, captures.underlay(), Selection::All)?;
+        let ports = open_all(alloc, &captures, PORTS, false)?;
+        let underlay = open(alloc, captures.underlay(), Selection::All, false)?;
         run(
             alloc,
             digest,
@@ -56,7 +56,7 @@ pub fn one_file(
         traffic.put(&mut captures, events);
         let text = captures.text(0);
         let ports = open_interfaces(alloc, text, PORTS as u32)?;
-        let underlay = open(alloc, text, Selection::Number(PORTS as u32))?;
+        let underlay = open(alloc, text, Selection::Number(PORTS as u32), false)?;
         run(
             alloc,
             digest,
@@ -100,8 +100,8 @@ pub fn colliding(
             stations.as_slice(),
             events,
         );
-        let ports = open_all(alloc, &captures, 3)?;
-        let underlay = open(alloc, captures.underlay(), Selection::All)?;
+        let ports = open_all(alloc, &captures, 3, false)?;
+        let underlay = open(alloc, captures.underlay(), Selection::All, false)?;
         run(
             alloc,
             digest,

@@ -82,8 +82,8 @@ fn watched_run(
         reports,
         counts: Some(RunCounts::new(alloc)),
     };
-    let ports = open_all(alloc, captures, PORTS)?;
-    let underlay = open(alloc, captures.underlay(), Selection::All)?;
+    let ports = open_all(alloc, captures, PORTS, false)?;
+    let underlay = open(alloc, captures.underlay(), Selection::All, false)?;
     run(
         alloc,
         digest,

@@ -62,11 +62,7 @@ pub enum Failure<'a> {
     /// This text is no time by which a clock is ahead or behind.
     #[error("shift: {name} is no time, as 500us, 10ms or -1s are", name = OneLine(*.0))]
     Shift(&'a str),
-    /// The capture of this name is standard input or no regular file, and a part that no digests are lent to reads its captures
-    /// twice.
-    #[error("{name} can be read only once, and without --digests a part reads its captures twice", name = OneLine(*.0))]
-    ReadOnce(&'a str),
-    /// The text of this file doesn't lend a part its digests, or the capture of this name isn't what a part has the digest of.
+    /// The text of this file doesn't lend a part the digests of its captures.
     #[error("{name}: {1}", name = OneLine(*.0))]
     Digests(&'a str, DigestsFailure),
     /// The part in this folder is wrong.
@@ -104,7 +100,7 @@ pub enum Failure<'a> {
     Unwritten(UnwrittenFile),
 }
 
-/// Why a part has no digests of what it read.
+/// Why a text lends a part no digests.
 #[derive(Debug, Drop, Error)]
 pub enum DigestsFailure {
     /// It is no text of digests.
@@ -113,9 +109,6 @@ pub enum DigestsFailure {
     /// They are of other captures.
     #[error("{0}")]
     Other(LentFault),
-    /// The file is a capture of a part that no digests are lent to, and became longer or shorter while the part ran.
-    #[error("it had another number of octets when it was read again for its digest")]
-    Changed,
 }
 
 /// What is wrong with a part of a run.
@@ -242,7 +235,6 @@ impl<'a> Failure<'a> {
             | Failure::Segments(_)
             | Failure::Within(_)
             | Failure::Shift(_)
-            | Failure::ReadOnce(_)
             | Failure::ReadAgain(_)
             | Failure::Unended(_)
             | Failure::Digests(..)

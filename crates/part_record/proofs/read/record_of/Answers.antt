@@ -1,7 +1,7 @@
-use Rattle.std.proofs.Common.{◌≡◌, ◌∙◌, ◌++◌, ap, sym, List, ℕ, append_assoc, append-nil}
+use Rattle.std.proofs.Common.{◌∙◌, ◌++◌, ap, sym, List, ℕ, append_assoc, append-nil}
 use Rattle.part_record.proofs.Reading.{empty, nonempty}
 use Rattle.part_record.proofs.RecordText.{has_one}
-use Rattle.part_record.specs.Record.{facts_of, record_text, text_of}
+use Rattle.part_record.specs.Record.{facts_of, text_of}
 use Rattle.part_record.specs.Texts.{text_lines}
 use Rattle.part_record.proofs.read.record_of.Goals as goal
 

@@ -1,6 +1,6 @@
 //! Texts of digests that are lent to the parts of a run, and octets that are counted on the way.
 use crate::tests::parts::texts::{put_lines, text_in_full};
-use part_record::{CountInput, DigestsFault, LentFault, digests_of, digests_text, see_octets};
+use part_record::{DigestInput, DigestsFault, LentFault, digests_of, digests_text, see_octets};
 use pcap::stream::Input;
 use std::alloc::Global;
 use std::test::Fail;
@@ -140,7 +140,7 @@ fn sees_captures_with_other_octets_than_the_digests_tell(rt: HostRuntime) -> Res
 #[test]
 fn counts_the_octets_that_it_hands_on(rt: HostRuntime) -> Result<(), Fail> {
     let text = octets_of(rt.alloc(), "00*50")?;
-    let mut input = CountInput::new(in_pieces(text.as_slice(), 4, 0));
+    let mut input = DigestInput::new(in_pieces(text.as_slice(), 4, 0), false);
     let mut room = [0; 10];
     let mut taken = Vec::new(rt.alloc());
     for _read in 0..text.len() {
@@ -151,5 +151,6 @@ fn counts_the_octets_that_it_hands_on(rt: HostRuntime) -> Result<(), Fail> {
         assert!(rt; input.octets() == taken.len() as u64);
     }
     assert!(rt; taken.as_slice() == text.as_slice());
+    assert!(rt; input.digest().is_none());
     Ok(())
 }

@@ -19,7 +19,7 @@ TOP = HERE.parent
 COLUMNS = 78
 
 # What stands between the brackets of a value, and what a completion offers for it. Of another value it offers nothing.
-IS_FILE = {"FILE"}
+IS_FILE = {"FILE", "check LEAF"}
 IS_FOLDER = {"DIR", "SHARD"}
 RANGE = re.compile(r"(\d+)\.\.(\d+)")
 
@@ -84,7 +84,7 @@ def option_of(line):
 
 
 def argument_of(line):
-    bracket, value, dots, text = found(r"  ([<\[])(\w+)[>\]](\.\.\.|)  +(\S.*)", line)
+    bracket, value, dots, text = found(r"  ([<\[])([\w ]+)[>\]](\.\.\.|)  +(\S.*)", line)
     return Argument(value, bool(dots), bracket == "[", text)
 
 

@@ -29,7 +29,7 @@ _tep() {
     fi
     COMPREPLY=()
     if [ "$COMP_CWORD" -eq 1 ]; then
-        _tep_offers words "run check explain migrate digest merge split compare report help --help --version"
+        _tep_offers words "run check explain migrate digest merge split compare report fabric help --help --version"
         return
     fi
     case ${COMP_WORDS[1]} in
@@ -101,7 +101,13 @@ _tep() {
                 *) _tep_offers folders ;;
             esac
             ;;
-        help) [ "$COMP_CWORD" -gt 2 ] || _tep_offers words "run check explain migrate digest merge split compare report help" ;;
+        fabric)
+            case $before,$cur in
+                *,-*) _tep_offers words "--help --version" ;;
+                *) _tep_offers files ;;
+            esac
+            ;;
+        help) [ "$COMP_CWORD" -gt 2 ] || _tep_offers words "run check explain migrate digest merge split compare report fabric help" ;;
     esac
 }
 

@@ -19,6 +19,7 @@ complete -c tep -n '__tep_first' -f -a merge -d 'Makes of the parts of a run the
 complete -c tep -n '__tep_first' -f -a split -d 'Makes of a pcapng capture one capture for each of its interfaces'
 complete -c tep -n '__tep_first' -f -a compare -d 'Tells which records that were sent were received'
 complete -c tep -n '__tep_first' -f -a report -d 'Makes a page of what a run gave, to look at'
+complete -c tep -n '__tep_first' -f -a fabric -d 'Tells who reaches whom by the settings of many endpoints'
 complete -c tep -n '__tep_first' -f -a help -d 'Print this message or the help of the given subcommand(s)'
 complete -c tep -n '__tep_first' -s h -l help -d 'Print help'
 complete -c tep -n '__tep_first' -s V -l version -d 'Print version'
@@ -96,4 +97,7 @@ complete -c tep -n '__tep_command report' -s h -l help -d 'Print help'
 complete -c tep -n '__tep_command report' -s V -l version -d 'Print version'
 complete -c tep -n '__tep_command report' -f -a '(__fish_complete_directories)'
 
-complete -c tep -n '__tep_command help' -f -a 'run check explain migrate digest merge split compare report help'
+complete -c tep -n '__tep_command fabric' -s h -l help -d 'Print help'
+complete -c tep -n '__tep_command fabric' -s V -l version -d 'Print version'
+
+complete -c tep -n '__tep_command help' -f -a 'run check explain migrate digest merge split compare report fabric help'

@@ -23,7 +23,7 @@ refused=500
 # answers stand behind, from that behind the last request to that of the first.
 calls="
 none 1 start 0
-line_of 165 none 0
+line_of 173 none 0
 settings_of 68 none 0
 settings_of_long 92 none 0
 migrate 49 none 0

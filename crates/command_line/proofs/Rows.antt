@@ -3,7 +3,7 @@ use Rattle.std.proofs.Common.{◌≡◌, refl, codes, [], ◌∷◌, Some, None,
 use Rattle.clap.specs.Words.{takes}
 use Rattle.clap.proofs.OnLiterals.{clap_on_literals}
 use Rattle.command_line.specs.App.{tep_app}
-use Rattle.command_line.specs.Meaning.{check, compare, compare_worked, digest, explain, merge, migrate, report, run, sample, split, words_meant}
+use Rattle.command_line.specs.Meaning.{check, compare, compare_worked, digest, explain, fabric, merge, migrate, report, run, sample, split, words_meant}
 
 no_words : words_meant (codes "tep" ∷ []) ≡ Some sample
 unfolding clap_on_literals
@@ -185,3 +185,12 @@ an_explanation_told_as_json = refl
 a_report : words_meant (codes "tep" ∷ codes "report" ∷ codes "-o" ∷ codes "p" ∷ codes "d" ∷ []) ≡ Some (report (codes "d") (codes "p"))
 unfolding clap_on_literals
 a_report = refl
+
+a_look_at_a_fabric : words_meant (codes "tep" ∷ codes "fabric" ∷ codes "check" ∷ codes "a" ∷ codes "b" ∷ [])
+    ≡ Some (fabric (codes "a" ∷ codes "b" ∷ []))
+unfolding clap_on_literals
+a_look_at_a_fabric = refl
+
+a_fabric_without_leaves_has_no_meaning : words_meant (codes "tep" ∷ codes "fabric" ∷ codes "check" ∷ []) ≡ None
+unfolding clap_on_literals
+a_fabric_without_leaves_has_no_meaning = refl

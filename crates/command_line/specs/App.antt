@@ -77,6 +77,7 @@ rule_for arguments.Strict = flag_rule (codes "strict")
 rule_for arguments.Lists = flag_rule (codes "list")
 rule_for arguments.By = option_rule (codes "by")
 rule_for arguments.Ignore = option_rule (codes "ignore")
+rule_for arguments.Leaves = record (listed_rule (codes "leaves")) { required = true }
 
 -- an app with these arguments behind its own
 abbrev pub with_arguments : App → List Argument → App
@@ -97,6 +98,7 @@ name_of subcommands.Merge = codes "merge"
 name_of subcommands.Split = codes "split"
 name_of subcommands.Compare = codes "compare"
 name_of subcommands.Report = codes "report"
+name_of subcommands.Fabric = codes "fabric"
 
 -- what a run takes, with an argument for its folder
 abbrev pub run_with : Argument → List Argument
@@ -124,6 +126,7 @@ arguments_of subcommands.Compare =
     arguments.Compared ∷ arguments.Worked ∷ arguments.WorkedUnderlay ∷ arguments.WorkedSettings ∷ arguments.Strict
     ∷ arguments.Later ∷ arguments.Shift ∷ arguments.Lists ∷ arguments.By ∷ arguments.Ignore ∷ arguments.Json ∷ []
 arguments_of subcommands.Report = arguments.Page ∷ arguments.RunFolder ∷ []
+arguments_of subcommands.Fabric = arguments.Leaves ∷ []
 
 -- what `clap` keeps of it
 abbrev pub shape_for : Subcommand → Shape
@@ -146,7 +149,7 @@ tep_app =
     with_commands versioned_app
     (subcommands.Run ∷ subcommands.Check ∷ subcommands.Explain
     ∷ subcommands.Migrate ∷ subcommands.Digest ∷ subcommands.Merge ∷ subcommands.Split ∷ subcommands.Compare
-    ∷ subcommands.Report ∷ [])
+    ∷ subcommands.Report ∷ subcommands.Fabric ∷ [])
 
 -- the program with the run alone that may leave its folder out
 abbrev pub telling_app : App

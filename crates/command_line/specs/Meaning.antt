@@ -29,7 +29,7 @@ use Rattle.command_line.specs.declared.line.LineFault.TheVariants as fault
 -- later a record may be, how far the clock of what was received is ahead, whether what is alone is listed, what a table is by,
 -- what is left aside, and whether it is told as JSON; of the other `compare` the folder that a run wrote into, what was captured
 -- at the underlay and at the ports, the same two, the settings if there are some, whether all octets are compared at the underlay,
--- and the last four
+-- and the last four; of `fabric` the settings of the endpoints
 pub data Meaning : Type 0 where
   sample : Meaning
   run : Text → Option Text → Text → Option Text → List Text → Bool
@@ -45,6 +45,7 @@ pub data Meaning : Type 0 where
   compare : Text → Text → Option Text → Option Text → Bool → Option Text → Bool → Bool → Meaning
   compare_worked : Text → Text → List Text → Option Text → Option Text → Option Text → Bool → Bool → Option Text → Bool → Bool
       → Meaning
+  fabric : List Text → Meaning
 
 -- what a command line is as such a meaning
 abbrev pub meaning_of : Line → Meaning
@@ -67,6 +68,7 @@ meaning_of (line.Compare sent received within shift lists by ignores json) =
 meaning_of (line.CompareWorked worked underlay ports within shift settings strict lists by ignores json) =
     compare_worked worked.now underlay.now (texts ports.items) (option_map (λ t. t.now) within) (option_map (λ t. t.now) shift)
     (option_map (λ t. t.now) settings) strict lists (option_map (λ t. t.now) by) ignores json
+meaning_of (line.Fabric leaves) = fabric (texts leaves.items)
 
 -- a depth is 1 to 4
 abbrev pub HasDepth : Line → Type 0
@@ -81,6 +83,7 @@ HasDepth (line.Split out capture) = ⊤
 HasDepth (line.Report folder page) = ⊤
 HasDepth (line.Compare sent received within shift lists by ignores json) = ⊤
 HasDepth (line.CompareWorked worked underlay ports within shift settings strict lists by ignores json) = ⊤
+HasDepth (line.Fabric leaves) = ⊤
 
 -- ---- what matches mean: nothing, where a required value is missing
 
@@ -214,6 +217,16 @@ compare_meant rows =
     (is_set (codes "json") rows)) (ignores_in rows))
     (all_of (codes "captures") rows)
 
+-- what the words behind `fabric` ask for: the word `check`, and one leaf at least
+abbrev pub leaves_meant : List Text → Option Meaning
+leaves_meant [] = None
+leaves_meant (word ∷ []) = None
+leaves_meant (word ∷ leaf ∷ more) = if bytes_eq word (codes "check") then Some (fabric (leaf ∷ more)) else None
+
+-- what `fabric` is asked to do
+abbrev pub fabric_meant : List Row → Option Meaning
+fabric_meant rows = option_and_then leaves_meant (all_of (codes "leaves") rows)
+
 -- what a subcommand of this name is asked to do
 abbrev pub command_meant : Text → List Row → Option Meaning
 command_meant name rows =
@@ -225,7 +238,8 @@ command_meant name rows =
     else (if bytes_eq name (codes "merge") then merge_meant rows
     else (if bytes_eq name (codes "split") then split_meant rows
     else (if bytes_eq name (codes "compare") then compare_meant rows
-    else (if bytes_eq name (codes "report") then report_meant rows else None))))))))
+    else (if bytes_eq name (codes "report") then report_meant rows
+    else (if bytes_eq name (codes "fabric") then fabric_meant rows else None)))))))))
 
 -- what a parse means that met this subcommand with these matches, or none
 abbrev pub line_meant : Option (Text × List Row) → Option Meaning
@@ -305,6 +319,7 @@ input_uses (split out capture) = inputs_among (capture ∷ [])
 input_uses (report folder page) = 0
 input_uses (compare sent received within shift lists by ignores json) = inputs_among (sent ∷ received ∷ [])
 input_uses (compare_worked worked underlay ports within shift settings strict lists by ignores json) = 0
+input_uses (fabric leaves) = 0
 
 -- it is read once at most
 abbrev pub ReadsInputOnce : Meaning → Type 0
@@ -364,7 +379,7 @@ RefusesAsWhole words e = (kind_of e ≡ OutOfMemory) ⊎ ((takes tep_app words �
 
 -- Refused where that definition takes the words neither as the program's nor as those of a run of which something is told, and
 -- then as the program's are; NoValue where it takes them as the program's and its matches lack a required value; Unpaired where
--- its matches have one, but are of `compare` with captures as it doesn't take them, NoFolder with captures that were worked out by
+-- its matches have one, but are of `compare` with captures as it doesn't take them, NoCheck of `fabric` with other words, NoFolder with captures that were worked out by
 -- no run but settings, or strictly, and Ignored with something to leave aside that it doesn't know; InputTwice where it takes them
 -- and they ask for standard input more than once, NoSegments where it takes them and they lend digests to a run that is no part,
 -- OutputTwice where it takes them and two things go to standard output, NoCapture where it takes them and they
@@ -377,6 +392,7 @@ Explains words fault.NoValue = (fault_of tep_app words ≡ []) × (words_meant w
 Explains words fault.Unpaired = (fault_of tep_app words ≡ []) × (words_meant words ≡ None)
 Explains words fault.NoFolder = (fault_of tep_app words ≡ []) × (words_meant words ≡ None)
 Explains words fault.Ignored = (fault_of tep_app words ≡ []) × (words_meant words ≡ None)
+Explains words fault.NoCheck = (fault_of tep_app words ≡ []) × (words_meant words ≡ None)
 Explains words fault.InputTwice = AreTaken words × IsSomeAnd (words_meant words) (λ meaning. 2 ≤ input_uses meaning)
 Explains words fault.NoSegments = AreTaken words × IsSomeAnd (words_meant words) (λ meaning. lends_to_a_whole meaning ≡ true)
 Explains words fault.OutputTwice = AreTaken words × IsSomeAnd (words_meant words) (λ meaning. mixes_output meaning ≡ true)
@@ -390,6 +406,7 @@ ExplainsWords words fault.NoValue = Explains words fault.NoValue
 ExplainsWords words fault.Unpaired = Explains words fault.Unpaired
 ExplainsWords words fault.NoFolder = Explains words fault.NoFolder
 ExplainsWords words fault.Ignored = Explains words fault.Ignored
+ExplainsWords words fault.NoCheck = Explains words fault.NoCheck
 ExplainsWords words fault.InputTwice = ⊥
 ExplainsWords words fault.NoSegments = ⊥
 ExplainsWords words fault.OutputTwice = ⊥
@@ -403,6 +420,7 @@ LacksValue meant fault.NoValue = meant ≡ None
 LacksValue meant fault.Unpaired = meant ≡ None
 LacksValue meant fault.NoFolder = meant ≡ None
 LacksValue meant fault.Ignored = meant ≡ None
+LacksValue meant fault.NoCheck = meant ≡ None
 LacksValue meant fault.InputTwice = ⊥
 LacksValue meant fault.NoSegments = ⊥
 LacksValue meant fault.OutputTwice = ⊥

@@ -96,6 +96,8 @@ pub enum Argument {
     By,
     /// Which records are left aside.
     Ignore,
+    /// The word `check` and the settings texts of many endpoints.
+    Leaves,
 }
 
 impl Argument {
@@ -335,6 +337,13 @@ impl Argument {
                 "WHAT",
                 "Leaves aside frames to addresses that switches don't forward: 'reserved'",
             ),
+            Argument::Leaves => listed(
+                alloc,
+                "leaves",
+                "check LEAF",
+                "The word 'check', and the settings texts of the endpoints",
+            )
+            .required(true),
         }
     }
 }

@@ -85,6 +85,13 @@ const REPORT_EXAMPLE: &str =
     tep run -s settings.toml -u underlay.pcap -o out --summary --tables --talkers port1.pcap port2.pcap >out/summary.txt\n  \
     tep report -o page.html out";
 
+/// What stands below the help of `fabric`.
+const FABRIC_EXAMPLE: &str =
+    "A leaf is named by its file, without its folder and .toml. What is told of are leaves as they are opened: no changes.\n\
+    The exit status is 0 where all reach all, and 1 where some don't.\n\n\
+    Example:\n  \
+    tep fabric check leaf1.toml leaf2.toml leaf3.toml";
+
 /// What `compare` takes.
 const COMPARE: [Argument; 11] = [
     Argument::Compared,
@@ -123,10 +130,12 @@ pub enum Subcommand {
     Compare,
     /// Makes a page of what a run gave.
     Report,
+    /// Tells who reaches whom by the settings of many endpoints.
+    Fabric,
 }
 
 /// All of them, in the order of the program's help.
-const SUBCOMMANDS: [Subcommand; 9] = [
+const SUBCOMMANDS: [Subcommand; 10] = [
     Subcommand::Run,
     Subcommand::Check,
     Subcommand::Explain,
@@ -136,6 +145,7 @@ const SUBCOMMANDS: [Subcommand; 9] = [
     Subcommand::Split,
     Subcommand::Compare,
     Subcommand::Report,
+    Subcommand::Fabric,
 ];
 
 /// What `run` takes, with `$out` as the argument for its folder.
@@ -212,6 +222,7 @@ impl Subcommand {
             Subcommand::Split => "split",
             Subcommand::Compare => "compare",
             Subcommand::Report => "report",
+            Subcommand::Fabric => "fabric",
         }
     }
 
@@ -247,6 +258,10 @@ impl Subcommand {
                 "Makes a page of what a run gave, to look at",
                 REPORT_EXAMPLE,
             ),
+            Subcommand::Fabric => (
+                "Tells who reaches whom by the settings of many endpoints",
+                FABRIC_EXAMPLE,
+            ),
         }
     }
 
@@ -265,6 +280,7 @@ impl Subcommand {
             Subcommand::Split => &[Argument::Out, Argument::SplitCapture],
             Subcommand::Compare => &COMPARE,
             Subcommand::Report => &[Argument::Page, Argument::RunFolder],
+            Subcommand::Fabric => &[Argument::Leaves],
         }
     }
 

@@ -14,7 +14,8 @@
 //!
 //! Proved besides:
 //! - Refused comes only where that definition takes the words as neither; NoValue and Unpaired only where it takes them
-//!   and they mean no line, since a required value is missing or `compare` has captures as it doesn't take them;
+//!   and they mean no line, since a required value is missing or `compare` has captures as it doesn't take them, NoCheck
+//!   where they mean none since `fabric` has other words than `check` and leaves;
 //!   NoFolder and Ignored only where they mean none either; InputTwice only where it takes them and more than one
 //!   capture's file is standard input, NoSegments only where it takes them and they lend digests to a run that is no
 //!   part, OutputTwice only where it takes them and two things go to standard output, NoCapture only

@@ -166,6 +166,11 @@ pub enum Line<'a> {
         /// Whether it is told as JSON.
         json: bool,
     },
+    /// Who reaches whom by the settings of many endpoints.
+    Fabric {
+        /// The settings texts' files: one at least.
+        leaves: Vec<&'a str>,
+    },
 }
 
 /// Why there is no line.
@@ -189,6 +194,9 @@ pub enum LineFault {
     /// What `compare` is asked to leave aside is nothing that it knows.
     #[error("error: --ignore takes the word 'reserved'")]
     Ignored,
+    /// `fabric` is given no word `check` with settings texts behind it.
+    #[error("error: fabric takes the word 'check' and a settings text for each endpoint")]
+    NoCheck,
     /// More captures than one are standard input.
     #[error("error: standard input '-' can be one capture only")]
     InputTwice,
@@ -258,6 +266,7 @@ fn input_uses(line: &Line<'_>) -> usize
         | Line::Migrate { .. }
         | Line::Merge { .. }
         | Line::Report { .. }
+        | Line::Fabric { .. }
         | Line::CompareWorked { .. } => 0,
     }
 }

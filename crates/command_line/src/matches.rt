@@ -3,7 +3,7 @@ ghost use Rattle.std.specs.Prelude.{◌≡◌, ◌≤◌, IfOk, IfErr, IfSome, o
 ghost use Rattle.clap.specs.Words.{all_of, first_of, found_of, rows_of, subcommand_rows_of};
 ghost use Rattle.clap.specs.Walk.{texts};
 ghost use Rattle.command_line.specs.Meaning.{Answers, check_meant, compare_meant, depth_in, digest_meant};
-ghost use Rattle.command_line.specs.Meaning.{explain_meant, ignores_in, is_set, line_meant, merge_meant};
+ghost use Rattle.command_line.specs.Meaning.{explain_meant, fabric_meant, leaves_meant, ignores_in, is_set, line_meant, merge_meant};
 ghost use Rattle.command_line.specs.Meaning.{migrate_meant, moment_in, report_meant, run_meant, small_depth, split_meant};
 ghost use Rattle.command_line.specs.declared.line.LineFault.TheVariants.{OutOfMemory};
 
@@ -29,6 +29,7 @@ pub(crate) fn line_from<'a>(alloc: Global, matches: &ArgMatches<'a>) -> Result<L
         "split" => split_from(inner),
         "compare" => compare_from(alloc, inner),
         "report" => report_from(inner),
+        "fabric" => fabric_from(alloc, inner),
         _ => Err(LineFault::NoValue),
     }
 }
@@ -222,6 +223,30 @@ fn report_from<'a>(inner: &ArgMatches<'a>) -> Result<Line<'a>, LineFault>
     let folder = text(inner, "folder").ok_or(LineFault::NoValue)?;
     let page = text(inner, "out").ok_or(LineFault::NoValue)?;
     Ok(Line::Report { folder, page })
+}
+
+/// The line that asks who reaches whom.
+fn fabric_from<'a>(alloc: Global, inner: &ArgMatches<'a>) -> Result<Line<'a>, LineFault>
+    ensures { Answers (fabric_meant (rows_of (found_of inner.now))) result }
+{
+    let words = values(inner, "leaves").ok_or(LineFault::NoValue)?;
+    fabric_line(alloc, words)
+}
+
+/// The line of these words behind `fabric`.
+fn fabric_line<'a>(alloc: Global, words: &[&'a str]) -> Result<Line<'a>, LineFault>
+    ensures { Answers (leaves_meant (texts words.now)) result }
+{
+    match words {
+        [word, leaf, more @ ..] if *word == "check" => {
+            let mut leaves = Vec::new(alloc);
+            if leaves.push(*leaf).is_err() || leaves.extend_from_slice(more).is_err() {
+                return Err(LineFault::OutOfMemory);
+            }
+            Ok(Line::Fabric { leaves })
+        }
+        _ => Err(LineFault::NoCheck),
+    }
 }
 
 /// The line that asks for a comparison.

@@ -1,5 +1,5 @@
 -- Frames whose octets stand in one row.
-use Rattle.std.proofs.Common.{◌≡◌, ℕ, ◌+◌, ◌<◌, ◌≤◌, false, List, [], ◌∷◌, ◌++◌, length, map, get_or, set, take, drop, refl, ap, ◌∙◌, zero, suc, arith, length-append, length-drop, length-take}
+use Rattle.std.proofs.Common.{◌≡◌, ℕ, ◌+◌, ◌<◌, ◌≤◌, false, List, [], ◌∷◌, ◌++◌, length, get_or, set, take, drop, refl, ap, ◌∙◌, zero, suc, arith, length-append, length-drop, length-take}
 use Rattle.std.proofs.lemmas.List.{take-append-le, drop-append-le}
 use Rattle.std.proofs.lemmas.Grind.{common_steps}
 use Rattle.echo_window.specs.Echo.{Arrival, Record, first_met, met_again, met_at, octets_of}
@@ -38,12 +38,6 @@ laid-at [] row i d e h = absurd (omega (arith, h))
 laid-at (j ∷ ks) row zero d e h = refl
 laid-at (j ∷ ks) row (suc i) d e h =
     laid-at ks (drop j.length row) i d e (omega (arith, h)) ∙ grind (arith, common_steps)
-
--- where it came in
-pub laid-place : (ks : List Kept) (row : List ℕ) (i : ℕ) (e : Arrival) → i < length ks → get_or (map (λ k. k.place) ks) i 0 ≡ (get_or (laid ks row) i e).place
-laid-place [] row i e h = absurd (omega (arith, h))
-laid-place (j ∷ ks) row zero e h = refl
-laid-place (j ∷ ks) row (suc i) e h = laid-place ks (drop j.length row) i e (omega (arith, h))
 
 -- where one ends
 pub lengths-next : (ks : List Kept) (i : ℕ) (d : Kept) → i < length ks → lengths (take (suc i) ks) ≡ lengths (take i ks) + (get_or ks i d).length

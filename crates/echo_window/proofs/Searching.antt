@@ -1,71 +1,56 @@
--- How a frame is found by its bucket.
-use Rattle.std.proofs.Common.{◌≡◌, ◌≢◌, ℕ, ◌+◌, ◌-◌, ◌<◌, ◌≤◌, Bool, true, false, not, nat_eq, nat_lt, eqb, ◌&&◌, if◌then◌else◌, List, length, get_or, Option, Some, None, refl, sym, ap, ◌∙◌, subst, arith, ◌⊎◌, inl, inr}
+-- Which of the frames that are kept a record is an echo of.
+use Rattle.std.proofs.Common.{◌≡◌, ◌≢◌, ℕ, ◌<◌, ◌≤◌, Bool, true, false, not, nat_eq, nat_lt, eqb, ◌&&◌, if◌then◌else◌, List, length, map, get_or, Option, Some, None, refl, sym, ap, ◌∙◌, subst, arith, ◌⊎◌, inl, inr}
 use borrow.Author.Tests.{ltb-false, ltb-true}
 use Rattle.std.proofs.lemmas.Bool.{and_parts, eq-eqb, eqb-true}
 use Rattle.std.proofs.lemmas.Bool.Decides.{eqb_tells}
-use Rattle.std.proofs.lemmas.List.{get_or-map}
+use Rattle.std.proofs.lemmas.List.{get_or-map, length-map}
 use Rattle.std.specs.List.{position}
 use Rattle.wire.specs.Octets.{is_same}
 use Rattle.wire.proofs.OctetsLemmas.{is_same-true}
 use Rattle.echo_window.specs.Bucket.{bucket_of}
 use Rattle.echo_window.specs.Echo.{Arrival, Record, first_met, is_awaited, is_echo_of, is_elsewhere, is_soon}
-use Rattle.echo_window.specs.Index.{FindsFrom, IsAllAt, IsIndexed, IsLatest, alikes, befores, buckets, places}
+use Rattle.echo_window.specs.Index.{AreAlike, FindsFrom, IsAllAt, IsKept, IsLatest, IsLinked, alikes, befores, buckets, index_of, places}
 use Rattle.echo_window.specs.Laid.{laid}
 use Rattle.echo_window.specs.declared.kept.Kept.{Kept}
 use Rattle.echo_window.proofs.Firsts.{first_at, first_nowhere}
-use Rattle.echo_window.proofs.Indexing.{buckets-length}
-use Rattle.echo_window.proofs.Laying.{laid-length, laid-place}
+use Rattle.echo_window.proofs.Indexing.{places-told}
+use Rattle.echo_window.proofs.Laying.{laid-length}
 
 -- ---- the first from an index on
 
 module _ (test : Arrival → Bool) (came : List Arrival) (d : Arrival) where
-  pub finds-none : (begin : ℕ) → ((k : ℕ) → begin ≤ k → k < length came → test (get_or came k d) ≡ false) → FindsFrom test came d begin None
-  finds-none begin h = h
-
-  -- one more is looked at, and those between aren't it
-  pub finds-more : (i begin : ℕ) (q : Bool) (found : Option ℕ) → q ≡ test (get_or came i d) → i < length came → begin ≤ i → ((k : ℕ) → begin ≤ k → k < i → test (get_or came k d) ≡ false)
-      → FindsFrom test came d (i + 1) found → FindsFrom test came d begin (if q then Some i else found)
-  finds-more i begin true found e l h none old = record { inside = l; behind = h; here = sym e; before = none }
-  finds-more i begin false (Some n) e l h none old = record {
+  -- none from another index up to that one is it
+  finds-rest : (begin end : ℕ) (found : Option ℕ) → begin ≤ end → ((k : ℕ) → begin ≤ k → k < end → test (get_or came k d) ≡ false) → FindsFrom test came d end found → FindsFrom test came d begin found
+  finds-rest begin end (Some n) less none old = record {
     inside = old.inside;
-    behind = omega (arith, h, old.behind);
+    behind = omega (arith, less, old.behind);
     here = old.here;
-    before = λ k m s. between k m s (eqb_tells k i) (nat_lt k i) refl;
+    before = λ k m s. by k m s (nat_lt k end) refl;
   }
     where
-      between : (k : ℕ) → begin ≤ k → k < n → ((eqb k i ≡ true) × (k ≡ i)) ⊎ ((eqb k i ≡ false) × (k ≢ i)) → (p : Bool) → nat_lt k i ≡ p → test (get_or came k d) ≡ false
-      between k m s (inl at) p z = ap (λ x. test (get_or came x d)) at.1 ∙ sym e
-      between k m s (inr away) true z = none k m (ltb-true k i z)
-      between k m s (inr away) false z = let far : i ≤ k = ltb-false k i z in old.before k (omega (arith, far, away.1)) s
-  finds-more i begin false None e l h none old = λ k m s. between k m s (eqb_tells k i) (nat_lt k i) refl
+      by : (k : ℕ) → begin ≤ k → k < n → (p : Bool) → nat_lt k end ≡ p → test (get_or came k d) ≡ false
+      by k m s true z = none k m (ltb-true k end z)
+      by k m s false z = old.before k (ltb-false k end z) s
+  finds-rest begin end None less none old = λ k m s. by k m s (nat_lt k end) refl
     where
-      between : (k : ℕ) → begin ≤ k → k < length came → ((eqb k i ≡ true) × (k ≡ i)) ⊎ ((eqb k i ≡ false) × (k ≢ i)) → (p : Bool) → nat_lt k i ≡ p → test (get_or came k d) ≡ false
-      between k m s (inl at) p z = ap (λ x. test (get_or came x d)) at.1 ∙ sym e
-      between k m s (inr away) true z = none k m (ltb-true k i z)
-      between k m s (inr away) false z = let far : i ≤ k = ltb-false k i z in old k (omega (arith, far, away.1)) s
+      by : (k : ℕ) → begin ≤ k → k < length came → (p : Bool) → nat_lt k end ≡ p → test (get_or came k d) ≡ false
+      by k m s true z = none k m (ltb-true k end z)
+      by k m s false z = old k (ltb-false k end z) s
 
-  -- none before is it
-  pub finds-rest : (begin : ℕ) (found : Option ℕ) → ((k : ℕ) → k < begin → test (get_or came k d) ≡ false) → FindsFrom test came d begin found → FindsFrom test came d 0 found
-  finds-rest begin (Some n) none old = record {
-    inside = old.inside;
-    behind = omega arith;
-    here = old.here;
-    before = λ k m s. by k s (nat_lt k begin) refl;
-  }
+  -- one more is looked at, and those behind it up to that index aren't it
+  finds-more : (i end : ℕ) (q : Bool) (found : Option ℕ) → q ≡ test (get_or came i d) → i < length came → i < end → ((k : ℕ) → i < k → k < end → test (get_or came k d) ≡ false)
+      → FindsFrom test came d end found → FindsFrom test came d i (if q then Some i else found)
+  finds-more i end true found e l h none old = record { inside = l; behind = omega arith; here = sym e; before = λ k m s. absurd (omega (arith, m, s)) }
+  finds-more i end false found e l h none old = finds-rest i end found (omega (arith, h)) (λ k m s. by k m s (eqb_tells k i)) old
     where
-      by : (k : ℕ) → k < n → (p : Bool) → nat_lt k begin ≡ p → test (get_or came k d) ≡ false
-      by k s true z = none k (ltb-true k begin z)
-      by k s false z = old.before k (ltb-false k begin z) s
-  finds-rest begin None none old = λ k m s. by k s (nat_lt k begin) refl
-    where
-      by : (k : ℕ) → k < length came → (p : Bool) → nat_lt k begin ≡ p → test (get_or came k d) ≡ false
-      by k s true z = none k (ltb-true k begin z)
-      by k s false z = old k (ltb-false k begin z) s
+      by : (k : ℕ) → i ≤ k → k < end → ((eqb k i ≡ true) × (k ≡ i)) ⊎ ((eqb k i ≡ false) × (k ≢ i)) → test (get_or came k d) ≡ false
+      by k m s (inl at) = ap (λ x. test (get_or came x d)) at.1 ∙ sym e
+      by k m s (inr away) = none k (omega (arith, m, away.1)) s
 
   -- all were looked at
-  pub finds-all : (begin : ℕ) (found : Option ℕ) → begin ≡ 0 → FindsFrom test came d begin found → found ≡ position test came
-  finds-all begin (Some i) e h = sym (first_at test came i d h.inside (λ k l. h.before k (omega (arith, e)) l) h.here)
-  finds-all begin None e h = sym (first_nowhere test came d (λ k l. h k (omega (arith, e)) l))
+  finds-all : (found : Option ℕ) → FindsFrom test came d 0 found → found ≡ position test came
+  finds-all (Some i) h = sym (first_at test came i d h.inside (λ k l. h.before k (omega arith) l) h.here)
+  finds-all None h = sym (first_nowhere test came d (λ k l. h k (omega arith) l))
 
 -- ---- a frame of another bucket
 
@@ -73,7 +58,7 @@ neither : (a : Bool) → (a && false) ≡ false
 neither true = refl
 neither false = refl
 
-pub other-bucket : (w : ℕ) (m : Record) (c : Arrival) → bucket_of c.frame ≢ bucket_of m.frame → is_echo_of w m c ≡ false
+other-bucket : (w : ℕ) (m : Record) (c : Arrival) → bucket_of c.frame ≢ bucket_of m.frame → is_echo_of w m c ≡ false
 other-bucket w m c other = by (is_same c.frame m.frame) refl
   where
     by : (q : Bool) → is_same c.frame m.frame ≡ q → is_echo_of w m c ≡ false
@@ -81,126 +66,127 @@ other-bucket w m c other = by (is_same c.frame m.frame) refl
     by false apart = ap (λ q. (is_elsewhere m c && (is_soon w m c && is_awaited m c)) && q) apart ∙ neither (is_elsewhere m c && (is_soon w m c && is_awaited m c))
 
 -- a frame of the record's own place
-pub own-place : (w : ℕ) (m : Record) (c : Arrival) → c.place ≡ m.place → is_echo_of w m c ≡ false
+own-place : (w : ℕ) (m : Record) (c : Arrival) → c.place ≡ m.place → is_echo_of w m c ≡ false
 own-place w m c same = ap (λ p. (not (nat_eq p m.place) && (is_soon w m c && is_awaited m c)) && is_same c.frame m.frame) same ∙ ap (λ q. (not q && (is_soon w m c && is_awaited m c)) && is_same c.frame m.frame) (eq-eqb m.place m.place refl)
 
--- no frame between two of a bucket is one that a record of that bucket is an echo of
-pub none-between : (gone end b number w : ℕ) (m : Record) (came : List Arrival) → b ≡ bucket_of m.frame → end ≤ length came → IsLatest gone (buckets came) end b number
-    → (k : ℕ) → number - gone ≤ k → k < end → is_echo_of w m (get_or came k (first_met m)) ≡ false
-none-between gone end b number w m came is few h k l s =
-    other-bucket w m (get_or came k (first_met m)) (λ same. h.none k s (omega (arith, l)) (get_or-map (λ (c : Arrival). bucket_of c.frame) came k (first_met m) 0 (omega (arith, s, few)) ∙ same ∙ sym is))
-
--- ---- one step along a bucket
-
-pub record Goes (gone : ℕ) (came : List Arrival) (b w : ℕ) (m : Record) (number : ℕ) (found : Option ℕ) : Type 0 where
-  pub few : number ≤ gone + length came
-  pub own : gone < number → get_or (buckets came) (number - gone - 1) 0 ≡ b
-  pub first : FindsFrom (is_echo_of w m) came (first_met m) (number - gone) found
-
-pub goes-begin : (gone passed : ℕ) (ks : List Kept) (row latest : List ℕ) (b w : ℕ) (m : Record) (number : ℕ) → IsIndexed gone passed ks row latest → b ≡ bucket_of m.frame → b < length latest → number ≡ get_or latest b 0
-    → Goes gone (laid ks row) b w m number None
-goes-begin gone passed ks row latest b w m number h is few at =
-    let size : length (buckets (laid ks row)) ≡ length (laid ks row) = buckets-length ks row ∙ sym (laid-length ks row) in
-    let last = subst (λ n. IsLatest gone (buckets (laid ks row)) n b number) size (subst (λ n. IsLatest gone (buckets (laid ks row)) (length (buckets (laid ks row))) b n) (sym at) (h.linked.last b few)) in
-    record {
-      few = last.few;
-      own = last.own;
-      first = λ k l s. none-between gone (length (laid ks row)) b number w m (laid ks row) is (omega arith) last k l s;
-    }
-
-pub goes-on : (gone passed : ℕ) (ks : List Kept) (row latest : List ℕ) (b w : ℕ) (m : Record) (number i : ℕ) (k : Kept) (q : Bool) (found found' : Option ℕ) → IsIndexed gone passed ks row latest → b ≡ bucket_of m.frame
-    → gone < number → i ≡ number - gone - 1 → k ≡ get_or ks i k → q ≡ is_echo_of w m (get_or (laid ks row) i (first_met m)) → found' ≡ (if q then Some i else found)
-    → Goes gone (laid ks row) b w m number found → Goes gone (laid ks row) b w m k.before found'
-goes-on gone passed ks row latest b w m number i k q found found' h is some at here asked said old =
-    let n : length (laid ks row) ≡ length ks = laid-length ks row in
-    let l : i < length (laid ks row) = omega (arith, at, some, old.few) in
-    let own : get_or (buckets (laid ks row)) i 0 ≡ b = ap (λ x. get_or (buckets (laid ks row)) x 0) at ∙ old.own some in
-    let next : get_or (befores ks) i 0 ≡ k.before = get_or-map (λ (x : Kept). x.before) ks i k 0 (omega (arith, l, n)) ∙ ap (λ (x : Kept). x.before) (sym here) in
-    let link = subst (λ x. IsLatest gone (buckets (laid ks row)) i b x) next (subst (λ x. IsLatest gone (buckets (laid ks row)) i x (get_or (befores ks) i 0)) own (h.linked.before i (omega (arith, l, n, buckets-length ks row)))) in
-    let from : number - gone ≡ i + 1 = omega (arith, at, some) in
-    let more = finds-more (is_echo_of w m) (laid ks row) (first_met m) i (k.before - gone) q found asked l (omega (arith, link.few)) (λ x y z. none-between gone i b k.before w m (laid ks row) is (omega (arith, l)) link x y z)
-    (subst (λ x. FindsFrom (is_echo_of w m) (laid ks row) (first_met m) x found) from old.first) in
-    record {
-      few = omega (arith, link.few, l);
-      own = link.own;
-      first = subst (λ x. FindsFrom (is_echo_of w m) (laid ks row) (first_met m) (k.before - gone) x) (sym said) more;
-    }
-
-pub goes-down : (gone passed : ℕ) (ks : List Kept) (row latest : List ℕ) (number i : ℕ) (k : Kept) → IsIndexed gone passed ks row latest → gone < number → number ≤ gone + length (laid ks row) → i ≡ number - gone - 1 → k ≡ get_or ks i k → k.before < number
-goes-down gone passed ks row latest number i k h some few at here =
-    let n : length (laid ks row) ≡ length ks = laid-length ks row in
-    let l : i < length ks = omega (arith, at, some, few, n) in
-    let next : get_or (befores ks) i 0 ≡ k.before = get_or-map (λ (x : Kept). x.before) ks i k 0 l ∙ ap (λ (x : Kept). x.before) (sym here) in
-    let link = h.linked.before i (omega (arith, l, buckets-length ks row)) in
-    omega (arith, link.few, next, at, some)
-
--- what was found is all that can be, where a frame says that it and those before it came in at the record's place
-pub found-all : (gone passed : ℕ) (ks : List Kept) (row latest : List ℕ) (b w : ℕ) (m : Record) (number i : ℕ) (k : Kept) (found : Option ℕ) → IsIndexed gone passed ks row latest → b ≡ bucket_of m.frame
-    → gone < number → i ≡ number - gone - 1 → k ≡ get_or ks i k → (k.alike && nat_eq k.place m.place) ≡ true
-    → Goes gone (laid ks row) b w m number found → found ≡ position (is_echo_of w m) (laid ks row)
-found-all gone passed ks row latest b w m number i k found h is some at here said old =
-    finds-all (is_echo_of w m) (laid ks row) (first_met m) 0 found refl (finds-rest (is_echo_of w m) (laid ks row) (first_met m) (number - gone) found (λ x l. none x (omega (arith, l, at, some)) (eqb_tells x i) (eqb_tells (get_or (buckets (laid ks row)) x 0) b)) old.first)
+-- a record is no echo of a frame that came in at its own place if it has its bucket
+own-or-other : (w : ℕ) (m : Record) (came : List Arrival) (k : ℕ) → k < length came → (get_or (buckets came) k 0 ≡ bucket_of m.frame → get_or (places came) k 0 ≡ m.place)
+    → is_echo_of w m (get_or came k (first_met m)) ≡ false
+own-or-other w m came k l h = by (eqb_tells (bucket_of (get_or came k (first_met m)).frame) (bucket_of m.frame))
   where
-    n : length (laid ks row) ≡ length ks
-    n = laid-length ks row
+    c : Arrival
+    c = get_or came k (first_met m)
 
-    l_i : i < length ks
-    l_i = omega (arith, at, some, old.few, n)
+    by : ((eqb (bucket_of c.frame) (bucket_of m.frame) ≡ true) × (bucket_of c.frame ≡ bucket_of m.frame)) ⊎ ((eqb (bucket_of c.frame) (bucket_of m.frame) ≡ false) × (bucket_of c.frame ≢ bucket_of m.frame)) → is_echo_of w m c ≡ false
+    by (inl same) = own-place w m c (sym (get_or-map (λ (x : Arrival). x.place) came k (first_met m) 0 l) ∙ h (get_or-map (λ (x : Arrival). bucket_of x.frame) came k (first_met m) 0 l ∙ same.1))
+    by (inr other) = other-bucket w m c other.1
 
-    parts : (k.alike ≡ true) × (nat_eq k.place m.place ≡ true)
-    parts = and_parts k.alike (nat_eq k.place m.place) said
+-- all with its bucket came in at its own place
+pub all-own : (b w : ℕ) (m : Record) (came : List Arrival) → b ≡ bucket_of m.frame → IsAllAt came b m.place → None ≡ position (is_echo_of w m) came
+all-own b w m came is all = sym (first_nowhere (is_echo_of w m) came (first_met m) (λ k l. own-or-other w m came k l (λ e. all k l (e ∙ sym is))))
 
-    own : get_or (buckets (laid ks row)) i 0 ≡ b
-    own = ap (λ x. get_or (buckets (laid ks row)) x 0) at ∙ old.own some
+-- ---- what is kept of the frames tells
 
-    place_i : get_or (places ks) i 0 ≡ m.place
-    place_i = get_or-map (λ (x : Kept). x.place) ks i k 0 l_i ∙ ap (λ (x : Kept). x.place) (sym here) ∙ eqb-true k.place m.place parts.1
+pub record Shows (first : ℕ) (ks : List Kept) (latest : List ℕ) (came : List Arrival) : Type 0 where
+  pub size : length ks ≡ length came
+  pub table : length latest ≡ 16384
+  pub linked : IsLinked first (buckets came) (befores ks) latest
+  pub stand : places came ≡ map (λ k. k.place) ks
+  pub alike : AreAlike (buckets came) (places came) (alikes ks)
 
-    flag : get_or (alikes ks) i false ≡ true
-    flag = get_or-map (λ (x : Kept). x.alike) ks i k false l_i ∙ ap (λ (x : Kept). x.alike) (sym here) ∙ parts.0
+pub shows : (capacity first passed : ℕ) (ks : List Kept) (row latest : List ℕ) (came : List Arrival) → laid ks row ≡ came → IsKept ks row capacity first passed latest → Shows first ks latest came
+shows capacity first passed ks row latest came v h = subst (λ cs. Shows first ks latest cs) v (record {
+  size = sym (laid-length ks row);
+  table = h.table;
+  linked = h.linked;
+  stand = places-told ks row;
+  alike = h.alike;
+})
 
-    at_place : (x : ℕ) → x ≤ i → get_or (places ks) x 0 ≡ m.place → is_echo_of w m (get_or (laid ks row) x (first_met m)) ≡ false
-    at_place x le p = own-place w m (get_or (laid ks row) x (first_met m)) (sym (laid-place ks row x (first_met m) (omega (arith, le, l_i))) ∙ p)
+buckets-size : (came : List Arrival) → length (buckets came) ≡ length came
+buckets-size came = length-map came (λ (c : Arrival). bucket_of c.frame)
 
-    none : (x : ℕ) → x ≤ i → ((eqb x i ≡ true) × (x ≡ i)) ⊎ ((eqb x i ≡ false) × (x ≢ i)) → ((eqb (get_or (buckets (laid ks row)) x 0) b ≡ true) × (get_or (buckets (laid ks row)) x 0 ≡ b)) ⊎ ((eqb (get_or (buckets (laid ks row)) x 0) b ≡ false) × (get_or (buckets (laid ks row)) x 0 ≢ b))
-        → is_echo_of w m (get_or (laid ks row) x (first_met m)) ≡ false
-    none x le (inl same) bucket = at_place x le (ap (λ y. get_or (places ks) y 0) same.1 ∙ place_i)
-    none x le (inr away) (inl bucket) = at_place x le (h.alike i x (omega (arith, l_i, buckets-length ks row)) (omega (arith, le, away.1)) flag (bucket.1 ∙ sym own) ∙ place_i)
-    none x le (inr away) (inr other) = other-bucket w m (get_or (laid ks row) x (first_met m)) (λ same. other.1 (get_or-map (λ (c : Arrival). bucket_of c.frame) (laid ks row) x (first_met m) 0 (omega (arith, le, l_i, n)) ∙ same ∙ sym is))
-
--- all frames with a bucket came in at a place, where the latest of them says so
-pub all-at : (gone passed : ℕ) (ks : List Kept) (row latest : List ℕ) (b place number i : ℕ) (k : Kept) → IsIndexed gone passed ks row latest → b < length latest → number ≡ get_or latest b 0
-    → gone < number → i ≡ number - gone - 1 → k ≡ get_or ks i k → (k.alike && nat_eq k.place place) ≡ true → IsAllAt (buckets (laid ks row)) (places ks) b place
-all-at gone passed ks row latest b place number i k h few told some at here said x l q = by (eqb_tells x i)
+-- those before one in its bucket came in where it did, where it says so
+alike-before : (first : ℕ) (ks : List Kept) (latest : List ℕ) (came : List Arrival) (place i : ℕ) (k : Kept) → Shows first ks latest came → i < length came → k ≡ get_or ks i k → (k.alike && nat_eq k.place place) ≡ true
+    → (x : ℕ) → x ≤ i → get_or (buckets came) x 0 ≡ get_or (buckets came) i 0 → get_or (places came) x 0 ≡ place
+alike-before first ks latest came place i k s l here said x le e = by (eqb_tells x i)
   where
-    last : IsLatest gone (buckets (laid ks row)) (length (buckets (laid ks row))) b number
-    last = subst (λ y. IsLatest gone (buckets (laid ks row)) (length (buckets (laid ks row))) b y) (sym told) (h.linked.last b few)
-
-    l_i : i < length ks
-    l_i = omega (arith, at, some, last.few, buckets-length ks row)
-
     parts : (k.alike ≡ true) × (nat_eq k.place place ≡ true)
     parts = and_parts k.alike (nat_eq k.place place) said
 
-    own : get_or (buckets (laid ks row)) i 0 ≡ b
-    own = ap (λ y. get_or (buckets (laid ks row)) y 0) at ∙ last.own some
-
-    place_i : get_or (places ks) i 0 ≡ place
-    place_i = get_or-map (λ (x : Kept). x.place) ks i k 0 l_i ∙ ap (λ (y : Kept). y.place) (sym here) ∙ eqb-true k.place place parts.1
+    own : get_or (places came) i 0 ≡ place
+    own = ap (λ ps. get_or ps i 0) s.stand ∙ get_or-map (λ (x : Kept). x.place) ks i k 0 (omega (arith, l, s.size)) ∙ ap (λ (x : Kept). x.place) (sym here) ∙ eqb-true k.place place parts.1
 
     flag : get_or (alikes ks) i false ≡ true
-    flag = get_or-map (λ (x : Kept). x.alike) ks i k false l_i ∙ ap (λ (y : Kept). y.alike) (sym here) ∙ parts.0
+    flag = get_or-map (λ (x : Kept). x.alike) ks i k false (omega (arith, l, s.size)) ∙ ap (λ (x : Kept). x.alike) (sym here) ∙ parts.0
 
-    further : (p : Bool) → nat_lt x i ≡ p → x ≢ i → get_or (places ks) x 0 ≡ place
-    further true z away = h.alike i x (omega (arith, l_i, buckets-length ks row)) (ltb-true x i z) flag (q ∙ sym own) ∙ place_i
-    further false z away = let far : i ≤ x = ltb-false x i z in absurd (last.none x l (omega (arith, far, away, at, some)) q)
+    by : ((eqb x i ≡ true) × (x ≡ i)) ⊎ ((eqb x i ≡ false) × (x ≢ i)) → get_or (places came) x 0 ≡ place
+    by (inl same) = ap (λ y. get_or (places came) y 0) same.1 ∙ own
+    by (inr away) = s.alike i x (omega (arith, l, buckets-size came)) (omega (arith, le, away.1)) flag e ∙ own
 
-    by : ((eqb x i ≡ true) × (x ≡ i)) ⊎ ((eqb x i ≡ false) × (x ≢ i)) → get_or (places ks) x 0 ≡ place
-    by (inl same) = ap (λ y. get_or (places ks) y 0) same.1 ∙ place_i
-    by (inr away) = further (nat_lt x i) refl away.1
+-- the latest of a bucket
+latest-is : (first : ℕ) (ks : List Kept) (latest : List ℕ) (came : List Arrival) (b i : ℕ) → Shows first ks latest came → b < 16384 → i ≡ index_of first (get_or latest b 0) → IsLatest (buckets came) (length came) b i
+latest-is first ks latest came b i s few at =
+    subst (λ x. IsLatest (buckets came) (length came) b x) (sym at)
+    (subst (λ x. IsLatest (buckets came) x b (index_of first (get_or latest b 0))) (buckets-size came) (s.linked.last b (omega (arith, few, s.table))))
 
--- no frame has a bucket whose number isn't greater than that of how many went
-pub none-at : (gone passed : ℕ) (ks : List Kept) (row latest : List ℕ) (b place number : ℕ) → IsIndexed gone passed ks row latest → b < length latest → number ≡ get_or latest b 0 → number ≤ gone
-    → IsAllAt (buckets (laid ks row)) (places ks) b place
-none-at gone passed ks row latest b place number h few told none x l q =
-    absurd ((h.linked.last b few).none x l (omega (arith, none, told)) q)
+-- all with a bucket came in at a place, where there is none, or the latest of them says so
+pub none-at : (first : ℕ) (ks : List Kept) (latest : List ℕ) (came : List Arrival) (b place i : ℕ) → Shows first ks latest came → b < 16384 → i ≡ index_of first (get_or latest b 0) → length came ≤ i → IsAllAt came b place
+none-at first ks latest came b place i s few at far x l e = absurd (omega (arith, far, (latest-is first ks latest came b i s few at x l e).0))
+
+pub all-at : (first : ℕ) (ks : List Kept) (latest : List ℕ) (came : List Arrival) (b place i : ℕ) (k : Kept) → Shows first ks latest came → b < 16384 → i ≡ index_of first (get_or latest b 0)
+    → i < length came → k ≡ get_or ks i k → (k.alike && nat_eq k.place place) ≡ true → IsAllAt came b place
+all-at first ks latest came b place i k s few at inside here said x l e =
+    let last = latest-is first ks latest came b i s few at x l e in
+    alike-before first ks latest came place i k s inside here said x last.1 (e ∙ sym last.2)
+
+-- ---- along a bucket
+
+-- what was found is the first of those from an index on; the next to look at is the latest before that
+pub record Goes (came : List Arrival) (w : ℕ) (m : Record) (i end : ℕ) (found : Option ℕ) : Type 0 where
+  pub few : end ≤ length came
+  pub latest : IsLatest (buckets came) end (bucket_of m.frame) i
+  pub first : FindsFrom (is_echo_of w m) came (first_met m) end found
+
+pub goes-begin : (first : ℕ) (ks : List Kept) (latest : List ℕ) (came : List Arrival) (b w : ℕ) (m : Record) (i end : ℕ) → Shows first ks latest came → b ≡ bucket_of m.frame → b < 16384
+    → i ≡ index_of first (get_or latest b 0) → end ≡ length came → Goes came w m i end None
+goes-begin first ks latest came b w m i end s is few at all = subst (λ n. Goes came w m i n None) (sym all) (record {
+  few = omega arith;
+  latest = subst (λ n. IsLatest (buckets came) (length came) n i) is (latest-is first ks latest came b i s few at);
+  first = λ k l n. absurd (omega (arith, l, n));
+})
+
+pub goes-on : (first : ℕ) (ks : List Kept) (latest : List ℕ) (came : List Arrival) (w : ℕ) (m : Record) (i i' end : ℕ) (k : Kept) (q : Bool) (found found' : Option ℕ) → Shows first ks latest came
+    → i < end → k ≡ get_or ks i k → i' ≡ index_of first k.before → q ≡ is_echo_of w m (get_or came i (first_met m)) → found' ≡ (if q then Some i else found)
+    → Goes came w m i end found → Goes came w m i' i found'
+goes-on first ks latest came w m i i' end k q found found' s some here at asked said old = record {
+  few = omega (arith, some, old.few);
+  latest = λ n l e.
+      let own = (old.latest n (omega (arith, l, some)) e).2 in
+      let link = s.linked.before i (omega (arith, some, old.few, buckets-size came)) n l (e ∙ sym own) in
+      subst (λ x. (x < i) × (n ≤ x) × (get_or (buckets came) x 0 ≡ bucket_of m.frame)) (ap (λ x. index_of first x) next ∙ sym at) (link.0, link.1, link.2 ∙ own);
+  first = subst (λ x. FindsFrom (is_echo_of w m) came (first_met m) i x) (sym said)
+      (finds-more (is_echo_of w m) came (first_met m) i end q found asked (omega (arith, some, old.few)) some
+      (λ n l e. own-or-other w m came n (omega (arith, e, old.few)) (λ same. absurd (omega (arith, l, (old.latest n e same).1)))) old.first);
+}
+  where
+    next : get_or (befores ks) i 0 ≡ k.before
+    next = get_or-map (λ (x : Kept). x.before) ks i k 0 (omega (arith, some, old.few, s.size)) ∙ ap (λ (x : Kept). x.before) (sym here)
+
+-- what was found is all that can be, where all before that with the record's bucket came in at its own place
+goes-done : (came : List Arrival) (w : ℕ) (m : Record) (i end : ℕ) (found : Option ℕ) → Goes came w m i end found → ((x : ℕ) → x < end → get_or (buckets came) x 0 ≡ bucket_of m.frame → get_or (places came) x 0 ≡ m.place)
+    → found ≡ position (is_echo_of w m) came
+goes-done came w m i end found old all =
+    finds-all (is_echo_of w m) came (first_met m) found
+    (finds-rest (is_echo_of w m) came (first_met m) 0 end found (omega arith) (λ x l n. own-or-other w m came x (omega (arith, n, old.few)) (all x n)) old.first)
+
+-- there is none
+pub goes-end : (came : List Arrival) (w : ℕ) (m : Record) (i end : ℕ) (found : Option ℕ) → end ≤ i → Goes came w m i end found → found ≡ position (is_echo_of w m) came
+goes-end came w m i end found far old = goes-done came w m i end found old (λ x l e. absurd (omega (arith, far, (old.latest x l e).0)))
+
+-- the latest of them says so
+pub goes-alike : (first : ℕ) (ks : List Kept) (latest : List ℕ) (came : List Arrival) (w : ℕ) (m : Record) (i end : ℕ) (k : Kept) (found : Option ℕ) → Shows first ks latest came → i < end → k ≡ get_or ks i k
+    → (k.alike && nat_eq k.place m.place) ≡ true → Goes came w m i end found → found ≡ position (is_echo_of w m) came
+goes-alike first ks latest came w m i end k found s some here said old =
+    goes-done came w m i end found old
+    (λ x l e. let last = old.latest x l e in alike-before first ks latest came m.place i k s (omega (arith, some, old.few)) here said x last.1 (e ∙ sym last.2))

@@ -15,11 +15,11 @@ pub(crate) struct Kept {
     pub(crate) number: u64,
     /// Nanoseconds.
     pub(crate) moment: u64,
-    /// How many octets came before its own.
+    /// How many octets came before its own, counted as in a window.
     pub(crate) at: u64,
     /// How many octets it has.
     pub(crate) length: usize,
-    /// The number of the frame before it in its bucket. It is kept where it is more than went.
+    /// The number of the frame before it in its bucket; it may be that of one that went, as in a window.
     pub(crate) before: u64,
     /// Whether all frames before it in its bucket came in where it did, as far as that is known.
     pub(crate) alike: bool,

@@ -34,7 +34,6 @@
 mod bucket;
 mod forgotten;
 mod frame_text;
-mod index;
 mod kept;
 mod origin;
 mod place_set;

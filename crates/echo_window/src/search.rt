@@ -1,102 +1,80 @@
 //! Which of the frames that are kept a record is an echo of.
-ghost use Rattle.std.specs.Prelude.{◌≡◌, ◌<◌, true, Some, if◌then◌else◌, length, slice_index_or};
+ghost use Rattle.std.specs.Prelude.{◌≡◌, ◌<◌, Some, if◌then◌else◌, length, slice_index_or, true};
 ghost use Rattle.std.specs.List.{position};
-ghost use Rattle.echo_window.specs.Bucket.{bucket_of};
 ghost use Rattle.echo_window.specs.Echo.{first_met, is_echo_of};
-ghost use Rattle.echo_window.specs.Index.{IsAllAt, IsIndexed, buckets, places};
-ghost use Rattle.echo_window.specs.Laid.{laid, lengths, told};
+ghost use Rattle.echo_window.specs.Index.{IsAllAt, index_of};
+ghost use Rattle.echo_window.specs.Laid.{told};
 
-use crate::index::Index;
-use crate::kept::Kept;
 use crate::record::Record;
-use crate::window::MOST_OCTETS;
-use octet_row::Row;
-use std::collections::VecDeque;
+use crate::window::Window;
 
-/// Which of some frames, whose octets stand in a row, a record is an echo of: of those with the bucket of its frame, from the
-/// latest to the earliest, up to one that came in at the record's place, as all before it did: those can't be sent there. Mostly
-/// there is none, or the latest is such a one.
-#[inline(always)]
-pub(crate) fn find_linked(
-    frames: &VecDeque<Kept>,
-    row: &Row<MOST_OCTETS>,
-    index: &Index,
-    bucket: usize,
-    within: u64,
-    met: &Record,
-) -> Option<usize>
-    requires whole { lengths frames.now.items ≡ length row.now }
-    requires indexed { IsIndexed index.now.gone index.now.passed frames.now.items row.now index.now.latest.items }
-    requires bucket { bucket ≡ bucket_of (told met.now).frame }
-    requires known { bucket < length index.now.latest.items }
-    ensures { result ≡ position (is_echo_of within (told met.now)) (laid frames.now.items row.now) }
-{
-    let number = index.latest[bucket];
-    if number <= index.gone {
-        return None;
-    }
-    let latest = &frames[(number - index.gone - 1) as usize];
-    if latest.are_all_at(met.place) {
-        return None;
-    }
-    find_among(frames, row, index, bucket, within, met)
-}
-
-/// The same, one after another.
-#[inline(never)]
-fn find_among(
-    frames: &VecDeque<Kept>,
-    row: &Row<MOST_OCTETS>,
-    index: &Index,
-    bucket: usize,
-    within: u64,
-    met: &Record,
-) -> Option<usize>
-    requires whole { lengths frames.now.items ≡ length row.now }
-    requires indexed { IsIndexed index.now.gone index.now.passed frames.now.items row.now index.now.latest.items }
-    requires bucket { bucket ≡ bucket_of (told met.now).frame }
-    requires known { bucket < length index.now.latest.items }
-    ensures { result ≡ position (is_echo_of within (told met.now)) (laid frames.now.items row.now) }
-{
-    let mut found = None;
-    let mut number = index.latest[bucket];
-    while number > index.gone {
-        let i = (number - index.gone - 1) as usize;
-        let kept = &frames[i];
-        if kept.are_all_at(met.place) {
-            return found;
+impl Window {
+    /// Which frame a record is an echo of: none where all frames with the bucket of its own came in at its place, since those can't
+    /// be sent there. Mostly there are none, or the latest tells so.
+    #[inline(always)]
+    pub(crate) fn search(&self, met: &Record) -> Option<usize>
+        ensures { result ≡ position (is_echo_of self.now.within (told met.now)) self.now.came }
+    {
+        if self.is_alike(met.frame.bucket(), met.place) {
+            return None;
         }
-        let is_echo = is_echo_at(frames, row, index, i, within, met);
-        found = if_echo(is_echo, i, found);
-        number = kept.before;
+        self.search_all(met)
     }
-    found
+
+    /// The same, from the latest frame with the bucket to the earliest, up to one that came in at the record's place, as all before
+    /// it did.
+    #[inline(never)]
+    fn search_all(&self, met: &Record) -> Option<usize>
+        ensures { result ≡ position (is_echo_of self.now.within (told met.now)) self.now.came }
+    {
+        let mut found = None;
+        let mut end = self.frames.len();
+        let mut i = index_of(self.first, self.latest[met.frame.bucket()]);
+        while i < end {
+            let kept = &self.frames[i];
+            if kept.are_all_at(met.place) {
+                return found;
+            }
+            found = if_echo(self.is_echo_at(i, met), i, found);
+            end = i;
+            let number = kept.before;
+            i = index_of(self.first, number);
+        }
+        found
+    }
+
+    /// Whether all frames with a bucket are known to have come in at a place.
+    #[inline(always)]
+    pub(crate) fn is_alike(&self, bucket: usize, place: u8) -> bool
+        requires { bucket < 16384 }
+        ensures { result ≡ true → IsAllAt self.now.came bucket place }
+    {
+        let i = index_of(self.first, self.latest[bucket]);
+        i >= self.frames.len() || self.frames[i].are_all_at(place)
+    }
+
+    /// Whether a record is an echo of the frame at an index. Most are of the same place, which is seen before their octets are
+    /// looked for.
+    #[inline]
+    fn is_echo_at(&self, i: usize, met: &Record) -> bool
+        requires { i < length self.now.came }
+        ensures { result ≡ is_echo_of self.now.within (told met.now) (slice_index_or self.now.came i (first_met (told met.now))) }
+    {
+        let (kept, within) = (&self.frames[i], self.within);
+        if !kept.awaits(within, met) {
+            return false;
+        }
+        let begin = kept.at.wrapping_sub(self.passed) as usize;
+        kept.is_met_by(self.row.part(begin, kept.length), within, met)
+    }
 }
 
-/// Whether all frames with a bucket are known to have come in at a place.
-#[inline]
-pub(crate) fn is_alike(
-    frames: &VecDeque<Kept>,
-    row: &Row<MOST_OCTETS>,
-    index: &Index,
-    bucket: usize,
-    place: u8,
-) -> bool
-    requires indexed { index.now.gone < 4611686018427387904 → index.now.passed < 4611686018427387904
-        → IsIndexed index.now.gone index.now.passed frames.now.items row.now index.now.latest.items }
-    requires known { bucket < length index.now.latest.items }
-    ensures { result ≡ true → index.now.gone < 4611686018427387904 → index.now.passed < 4611686018427387904
-        → IsAllAt (buckets (laid frames.now.items row.now)) (places frames.now.items) bucket place }
+/// The index of the frame with a number, where the first that is kept has this one.
+#[inline(always)]
+fn index_of(first: u64, number: u64) -> usize
+    ensures { result ≡ index_of first number }
 {
-    if !index.tells_places() {
-        return false;
-    }
-    let number = index.latest[bucket];
-    if number <= index.gone {
-        return true;
-    }
-    let latest = &frames[(number - index.gone - 1) as usize];
-    latest.are_all_at(place)
+    number.wrapping_sub(first) as usize
 }
 
 /// The index, where a record is an echo of the frame at it; else what was found behind it.
@@ -105,51 +83,4 @@ fn if_echo(is_echo: bool, i: usize, found: Option<usize>) -> Option<usize>
     ensures { result ≡ (if is_echo then Some i else found) }
 {
     if is_echo { Some(i) } else { found }
-}
-
-/// Whether a record is an echo of the frame at an index. Most are of the same place, which is seen before their octets are
-/// looked for.
-#[inline]
-fn is_echo_at(
-    frames: &VecDeque<Kept>,
-    row: &Row<MOST_OCTETS>,
-    index: &Index,
-    i: usize,
-    within: u64,
-    met: &Record,
-) -> bool
-    requires whole { lengths frames.now.items ≡ length row.now }
-    requires indexed { IsIndexed index.now.gone index.now.passed frames.now.items row.now index.now.latest.items }
-    requires inside { i < length frames.now.items }
-    ensures { result ≡ is_echo_of within (told met.now) (slice_index_or (laid frames.now.items row.now) i (first_met (told met.now))) }
-{
-    let kept = &frames[i];
-    if !kept.awaits(within, met) {
-        return false;
-    }
-    let begin = (kept.at - index.passed) as usize;
-    let octets = row.part(begin, kept.length);
-    kept.is_met_by(octets, within, met)
-}
-
-/// The same, of all frames from the earliest on.
-pub(crate) fn find(
-    frames: &VecDeque<Kept>,
-    row: &Row<MOST_OCTETS>,
-    within: u64,
-    met: &Record,
-) -> Option<usize>
-    requires { lengths frames.now.items ≡ length row.now }
-    ensures { result ≡ position (is_echo_of within (told met.now)) (laid frames.now.items row.now) }
-{
-    let mut begin = 0;
-    for i in 0..frames.len() {
-        let kept = &frames[i];
-        let octets = row.part(begin, kept.length);
-        if kept.is_met_by(octets, within, met) {
-            return Some(i);
-        }
-        begin += kept.length;
-    }
-    None
 }

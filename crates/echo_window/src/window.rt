@@ -1,18 +1,15 @@
 //! The latest frames that came in.
 ghost use Rattle.std.specs.Prelude.{◌≡◌, ◌≤◌, ◌<◌, ◌+◌, ◌-◌, ◌&&◌, [], ◌∷◌, ◌++◌, IfOk, drop, if◌then◌else◌, length, nat_eq, nat_le};
 ghost use Rattle.std.specs.Prelude.{slice_index_or, true};
-ghost use Rattle.std.specs.List.{position};
 ghost use Rattle.echo_window.specs.Echo.{Record as ARecord, age_at, behind_entered, behind_met, crowded_by, echo_of, first_met, fits};
-ghost use Rattle.echo_window.specs.Echo.{is_echo_of, is_met_everywhere, met_again, new_window, newest, origin_of, recent, with_ages, with_met};
-ghost use Rattle.echo_window.specs.Bucket.{bucket_of};
+ghost use Rattle.echo_window.specs.Echo.{is_met_everywhere, met_again, new_window, newest, origin_of, recent, with_ages, with_met};
 ghost use Rattle.echo_window.specs.Laid.{begins_past, told};
 
+use crate::bucket::BUCKETS;
 use crate::forgotten::Forgotten;
-use crate::index::Index;
 use crate::kept::Kept;
 use crate::origin::Origin;
 use crate::record::Record;
-use crate::search::{find, find_linked, is_alike};
 use octet_row::Row;
 use std::alloc::{AllocError, Global};
 use std::collections::VecDeque;
@@ -32,12 +29,17 @@ const ROOM: usize = 2 * MOST_OCTETS;
 #[derive(Drop)]
 pub struct Window {
     /// How many nanoseconds later an echo may be.
-    within: u64,
-    /// The earliest first.
-    frames: VecDeque<Kept>,
+    pub(crate) within: u64,
+    /// The earliest first. Each has a number, from 1 on.
+    pub(crate) frames: VecDeque<Kept>,
     /// Their octets, in the same order.
-    row: Row<MOST_OCTETS>,
-    index: Index,
+    pub(crate) row: Row<MOST_OCTETS>,
+    /// The number of the first, or of the next one, and how many octets came before its own.
+    pub(crate) first: u64,
+    pub(crate) passed: u64,
+    /// By a bucket, the number of the latest frame that had it; 0 where none had it yet. Where that frame went, none that is kept
+    /// has the bucket: so it does no harm that its number may be another's, once numbers began again behind the greatest.
+    pub(crate) latest: Vec<u64>,
     forgotten: Forgotten,
 }
 
@@ -51,7 +53,7 @@ impl Model for Window {
 
     ghost view = { λ w. record { within = w.within; came = laid w.frames.items w.row; forgotten = w.forgotten } };
 
-    ghost invariant = { λ w. IsKept w.frames.items w.row (deque_capacity w.frames) w.index.gone w.index.passed w.index.latest.items };
+    ghost invariant = { λ w. IsKept w.frames.items w.row (deque_capacity w.frames) w.first w.passed w.latest.items };
 }
 
 impl Window {
@@ -64,7 +66,9 @@ impl Window {
             within,
             frames: VecDeque::with_capacity(alloc, MOST_FRAMES)?,
             row: Row::new(alloc, ROOM, MOST_OCTETS)?,
-            index: Index::new(alloc)?,
+            first: 1,
+            passed: 0,
+            latest: vec![in alloc; 0; BUCKETS]?,
             forgotten: Forgotten::nothing(),
         })
     }
@@ -86,7 +90,7 @@ impl Window {
         ensures { self.new ≡ behind_entered self.old (told met.now) }
     {
         self.forget_past(met.moment);
-        self.keep(met, met.frame.bucket());
+        self.keep(met);
     }
 
     /// How many nanoseconds later an echo may be.
@@ -110,7 +114,7 @@ impl Window {
         ensures answer { result ≡ echo_of self.old.within self.old.came (told met.now) }
         ensures behind { self.new ≡ record self.old { came = with_met self.old.within self.old.came (told met.now) } }
     {
-        match self.search(met, met.frame.bucket()) {
+        match self.search(met) {
             Some(i) => Some(self.mark(i, met)),
             None => None,
         }
@@ -134,26 +138,6 @@ impl Window {
         !self.frames.is_empty() && self.frames[0].is_past(self.within, moment)
     }
 
-    /// Which frame a record is an echo of, whose frame has this bucket.
-    #[inline]
-    fn search(&self, met: &Record, bucket: usize) -> Option<usize>
-        requires bucket { bucket ≡ bucket_of (told met.now).frame }
-        requires known { bucket < 16384 }
-        ensures { result ≡ position (is_echo_of self.now.within (told met.now)) self.now.came }
-    {
-        if self.index.tells_places() {
-            return find_linked(
-                &self.frames,
-                &self.row,
-                &self.index,
-                bucket,
-                self.within,
-                met,
-            );
-        }
-        find(&self.frames, &self.row, self.within, met)
-    }
-
     /// Notes that a frame was met again at the place of a record. Which record brought it is told.
     fn mark(&mut self, i: usize, met: &Record) -> Origin
         requires there { i < length self.old.came }
@@ -169,12 +153,10 @@ impl Window {
         }
     }
 
-    /// Keeps the frame of a record, which has this bucket, as the latest, and as many of the others as fit. The rest are counted,
-    /// and so is this one where it doesn't fit alone.
+    /// Keeps the frame of a record as the latest, and as many of the others as fit. The rest are counted, and so is this one where
+    /// it doesn't fit alone.
     #[inline(always)]
-    fn keep(&mut self, met: &Record, bucket: usize)
-        requires bucket { bucket ≡ bucket_of (told met.now).frame }
-        requires known { bucket < 16384 }
+    fn keep(&mut self, met: &Record)
         ensures { self.new ≡ record self.old {
           came = newest (self.old.came ++ first_met (told met.now) ∷ []);
           forgotten = with_ages self.old.forgotten (crowded_by self.old.came (told met.now));
@@ -187,7 +169,7 @@ impl Window {
             }
             self.lose_first(met);
         }
-        self.put(met, bucket);
+        self.put(met);
     }
 
     /// Forgets the earliest frame, and counts it at its age when a record came, where it may be met again.
@@ -255,28 +237,29 @@ impl Window {
     {
         if let Some(kept) = self.frames.pop_front() {
             self.row.forget(kept.length);
-            self.index.pass(kept.length);
+            self.first = self.first.wrapping_add(1);
+            self.passed = self.passed.wrapping_add(kept.length as u64);
         }
     }
 
-    /// Keeps the frame of a record, which has this bucket and for which there is room, as the latest.
+    /// Keeps the frame of a record, for which there is room, as the latest.
     #[inline(always)]
-    fn put(&mut self, met: &Record, bucket: usize)
-        requires bucket { bucket ≡ bucket_of (told met.now).frame }
-        requires known { bucket < 16384 }
-        requires room { fits (self.old.came ++ first_met (told met.now) ∷ []) ≡ true }
+    fn put(&mut self, met: &Record)
+        requires { fits (self.old.came ++ first_met (told met.now) ∷ []) ≡ true }
         ensures { self.new ≡ record self.old { came = self.old.came ++ first_met (told met.now) ∷ [] } }
     {
+        let bucket = met.frame.bucket();
         let kept = Kept {
             place: met.place,
             number: met.number,
             moment: met.moment,
-            at: self.index.octets_before(self.row.count()),
+            at: self.passed.wrapping_add(self.row.count() as u64),
             length: met.frame.octet_count(),
-            alike: is_alike(&self.frames, &self.row, &self.index, bucket, met.place),
-            before: self.index.enter(bucket, self.frames.len()),
+            alike: self.is_alike(bucket, met.place),
+            before: self.latest[bucket],
             awaited: met.awaited.copied(),
         };
+        self.latest[bucket] = self.first.wrapping_add(self.frames.len() as u64);
         met.frame.put_behind(&mut self.row);
         self.frames.push_back_reserved(kept);
     }

@@ -1,13 +1,13 @@
 //! Why a line gave up, as far as it is known: lines on standard error below its fault, each begun by two spaces.
 use crate::named::{capture_at, folder_of, is_text, names_of};
 use crate::notes::tell_notes;
-use crate::refusals::{tell_part_capture, tell_pcapng, tell_refused};
+use crate::refusals::{tell_leaf, tell_part_capture, tell_pcapng, tell_refused};
 use command_line::{Line, STANDARD_INPUT, capture_name};
 use part_lines::PartFault;
 use part_record::MOST_PORTS;
 use program_files::{
-    FailedOutput, Failure, OneLine, OutputFile, PartFailure, SplitFailure, SystemFault, file_of,
-    is_same, path_of, read_fault,
+    FailedOutput, Failure, LeafFailure, OneLine, OutputFile, PartFailure, SplitFailure,
+    SystemFault, file_of, is_same, path_of, read_fault,
 };
 use std::alloc::AllocError;
 use std::fs;
@@ -43,6 +43,7 @@ fn tell<R: Files + AllocGlobal + Eprint>(
         Failure::Write(output) => tell_spared(rt, line, *output),
         Failure::WriteFailed(output, fault) => tell_unwritten(rt, line, *output, *fault),
         Failure::Run(fault) => tell_refused(rt, line, fault),
+        Failure::Leaf(name, LeafFailure::Refused(fault)) => tell_leaf(rt, *name, fault),
         Failure::Pcapng(tap, fault) => match capture_at(line, *tap) {
             Some(name) => tell_pcapng(rt, name, *fault),
             None => Ok(()),

@@ -97,6 +97,7 @@ pub fn is_text(line: &Line<'_>, name: &str) -> bool {
         } => *settings == name || *changes == Some(name),
         Line::Explain { settings, .. } | Line::Migrate { settings } => *settings == name,
         Line::CompareWorked { settings, .. } => *settings == Some(name),
+        Line::Fabric { leaves } => leaves.as_slice().contains(&name),
         _ => false,
     }
 }

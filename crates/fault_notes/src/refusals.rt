@@ -46,6 +46,18 @@ pub fn tell_refused<R: Files + AllocGlobal + Eprint>(
     }
 }
 
+/// Tells where and why the settings of one endpoint of many are refused.
+pub fn tell_leaf<R: Files + AllocGlobal + Eprint>(
+    rt: &R,
+    name: &str,
+    fault: &RunFault,
+) -> Result<(), AllocError> {
+    match fault {
+        RunFault::Settings(fault) => tell_advice(rt, TextKind::Settings, name, fault),
+        _ => Ok(()),
+    }
+}
+
 /// Whether a line looks at what a run is to read.
 fn is_check(line: &Line<'_>) -> bool {
     match line {

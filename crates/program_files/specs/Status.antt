@@ -15,7 +15,7 @@ status_of (faults.Record tap number fault) = 1
 status_of faults.OutOfMemory = 3
 
 -- of what the program gives up for: 1 for a text, a capture, a part, a folder or digests that are refused, an event that isn't
--- there or captures that differ, 3 for want of memory, a failed read, a failed write or outputs that are one file
+-- there, captures that differ or endpoints that don't reach others, 3 for want of memory, a failed read, a failed write or outputs that are one file
 abbrev pub failure_status_of : Failure → ℕ
 failure_status_of (failures.Run fault) = status_of fault
 failure_status_of (failures.Pcapng tap fault) = 1
@@ -41,3 +41,5 @@ failure_status_of failures.Differs = 1
 failure_status_of (failures.Missing number) = 1
 failure_status_of (failures.Split name fault) = 1
 failure_status_of (failures.Unwritten file) = 3
+failure_status_of (failures.Leaf name fault) = 1
+failure_status_of failures.Unreached = 1

@@ -2,6 +2,7 @@
 
 mod decisions_fault;
 mod failure;
+mod leaf_failure;
 mod one_line;
 mod printed;
 mod quoted;
@@ -13,6 +14,7 @@ mod worked_failure;
 
 pub use decisions_fault::DecisionsFault;
 pub use failure::{DigestsFailure, Failure, OutputFile, PartFailure};
+pub use leaf_failure::LeafFailure;
 pub use one_line::OneLine;
 pub use printed::is_lost;
 pub use quoted::Quoted;

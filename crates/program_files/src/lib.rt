@@ -52,7 +52,7 @@ pub use apart::Apart;
 pub use closed_streams::ClosedStreams;
 pub use failed_outputs::{FailedOutput, FailedOutputs};
 pub use faults::{
-    DecisionsFault, DigestsFailure, Failure, OneLine, OutputFile, PartFailure, Quoted,
+    DecisionsFault, DigestsFailure, Failure, LeafFailure, OneLine, OutputFile, PartFailure, Quoted,
     SplitFailure, SystemFault, TextFault, Unwritten, UnwrittenFile, WorkedFailure, exit_code,
     is_lost, read_text,
 };

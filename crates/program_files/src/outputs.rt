@@ -3,7 +3,7 @@
 //! All are opened, and all memory for them is asked for, before the first is emptied. Where the folder doesn't exist the first of
 //! them can't be written: status 3, and nothing else stands on disk.
 ghost use Rattle.std.specs.Prelude.{◌≡◌, [], IfOk, length};
-ghost use Rattle.program_files.specs.Held.{AreHeld, AreUnwritten, IsHeld, written};
+ghost use Rattle.program_files.specs.Held.{AreHeld, IsHeld, written};
 
 use crate::apart::{Apart, see_open};
 use crate::faults::{Failure, OutputFile};
@@ -17,6 +17,7 @@ use pcap::stream::{BlockOutput, Sink, StdOutput};
 use std::alloc::{AllocError, Global};
 use std::fs::{self, OpenFile, OpenOptions};
 use std::io::{self, Write};
+use std::marker::Model;
 use std::path::{Path, PathBuf};
 use std::rt::Files;
 use timeline::RunOutputs;
@@ -67,7 +68,7 @@ pub struct OutputFiles<F: Write + Drop> {
     pub part_file: Option<F>,
 }
 
-/// The same files, opened, with what stood in them. They are written in blocks: captures of 64 KiB, and decision lines of 128.
+/// The same files, opened, with what stood in them, of which nothing is written yet; seen by contracts as the number of ports. They are written in blocks: captures of 64 KiB, and decision lines of 128.
 #[derive(Drop)]
 pub struct Opened<F: Write + Drop> {
     ports: Vec<Written<F>>,
@@ -76,6 +77,17 @@ pub struct Opened<F: Write + Drop> {
     part_file: Option<F>,
     /// Room for the captures of the ports once they are empty.
     emptied: Vec<Sink<Written<F>>>,
+}
+
+impl<F: Write + Drop> Model for Opened<F> {
+    ghost use Rattle.std.specs.Prelude.{◌≡◌, ℕ, [], length};
+    ghost use Rattle.program_files.specs.Held.{AreUnwritten};
+
+    ghost Value = { ℕ };
+
+    ghost view = { λ o. length o.ports.items };
+
+    ghost invariant = { λ o. AreUnwritten o.ports.items o.underlay o.decisions × (o.emptied.items ≡ []) };
 }
 
 /// Refuses an output that is one of the files that are read, since to write it would be to cut what is still to be read, and one
@@ -159,9 +171,7 @@ pub fn open_outputs<R: Files + AllocGlobal>(
     is_part: bool,
     count: usize,
 ) -> Result<Opened<R::File>, Failure<'static>>
-    ensures count { IfOk result (λ opened. length opened.ports.items ≡ count) }
-    ensures unwritten { IfOk result (λ opened. AreUnwritten opened.ports.items opened.underlay opened.decisions) }
-    ensures room { IfOk result (λ opened. opened.emptied.items ≡ []) }
+    ensures { IfOk result (λ opened. opened ≡ count) }
 {
     let mut ports = Vec::new(rt.alloc());
     for index in 0..count {
@@ -287,9 +297,7 @@ impl<F: Write + OpenFile + Drop> Opened<F> {
 
     /// Empties the files, the decision lines first, which tell of the captures. No memory is asked for any more.
     pub fn emptied(self) -> Result<OutputFiles<F>, Failure<'static>>
-        requires unwritten { AreUnwritten self.ports.items self.underlay self.decisions }
-        requires room { self.emptied.items ≡ [] }
-        ensures count { IfOk result (λ outputs. length outputs.files.ports ≡ length self.ports.items) }
+        ensures count { IfOk result (λ outputs. length outputs.files.ports ≡ self) }
         ensures in_files { IfOk result (λ outputs. AreHeld F.contents (written outputs.files)) }
     {
         let Opened {

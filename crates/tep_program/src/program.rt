@@ -12,6 +12,7 @@ use command_line::{Line, LineFault, line_of};
 use compare_on_files::{Compared, Worked, compare, compare_worked, no_table, no_table_name};
 use explanation::sample::sample;
 use explanation::{Values, explain_bytes};
+use fabric_on_files::check_fabric;
 use fault_notes::{
     has_unended, tell_causes, tell_failed_besides, tell_next_step, tell_notes, tell_open_files,
     tell_unended,
@@ -86,6 +87,7 @@ pub fn run<'a, R: Files + Input + AllocGlobal + Print + Eprint + Clock + Screen>
         Err(LineFault::Unpaired) => words_refused(rt, &LineFault::Unpaired),
         Err(LineFault::NoFolder) => words_refused(rt, &LineFault::NoFolder),
         Err(LineFault::Ignored) => words_refused(rt, &LineFault::Ignored),
+        Err(LineFault::NoCheck) => words_refused(rt, &LineFault::NoCheck),
         Err(LineFault::NoCapture) => words_refused(rt, &LineFault::NoCapture),
         Err(LineFault::InputTwice) => words_refused(rt, &LineFault::InputTwice),
         Err(LineFault::NoSegments) => words_refused(rt, &LineFault::NoSegments),
@@ -276,6 +278,7 @@ fn perform<'a, R: Files + Input + AllocGlobal + Print + Eprint + Clock + Screen>
         }
         Line::Split { out, capture } => split(rt, *out, *capture),
         Line::Report { folder, page } => make_page(rt, *folder, *page),
+        Line::Fabric { leaves } => check_fabric(rt, leaves.as_slice()),
         Line::Compare {
             sent,
             received,

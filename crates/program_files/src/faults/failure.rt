@@ -6,6 +6,7 @@ ghost use Rattle.program_files.specs.declared.faults.failure.Failure.TheVariants
 ghost use Rattle.program_files.specs.declared.faults.failure.PartFailure.TheVariants as part_failures;
 ghost use Rattle.program_files.specs.declared.faults.text.TextFault.TheVariants.{OutOfMemory, Read};
 
+use crate::faults::leaf_failure::LeafFailure;
 use crate::faults::one_line::OneLine;
 use crate::faults::split_failure::{SplitFailure, UnwrittenFile};
 use crate::faults::status::exit_code;
@@ -98,6 +99,12 @@ pub enum Failure<'a> {
     /// A file that a capture is split into couldn't be written.
     #[error("write {0}")]
     Unwritten(UnwrittenFile),
+    /// The endpoint whose settings are in the file of this name isn't looked at, and so none is.
+    #[error("{name}: {1}", name = OneLine(*.0))]
+    Leaf(&'a str, LeafFailure),
+    /// Some endpoints don't reach others.
+    #[error("not all reach all")]
+    Unreached,
 }
 
 /// Why a text lends a part no digests.
@@ -223,8 +230,8 @@ impl<'a> Failure<'a> {
         Failure::Part(folder, PartFailure::Part(fault))
     }
 
-    /// The exit status: 1 for a text, a capture, a part, a folder or digests that are refused, an event that isn't there or
-    /// captures that differ, 3 for want of memory, a failed read, a failed write or outputs that are one file.
+    /// The exit status: 1 for a text, a capture, a part, a folder or digests that are refused, an event that isn't there,
+    /// captures that differ or endpoints that don't reach others, 3 for want of memory, a failed read, a failed write or outputs that are one file.
     pub fn status(&self) -> u8
         ensures { result ≡ failure_status_of self.now }
     {
@@ -247,7 +254,9 @@ impl<'a> Failure<'a> {
             | Failure::Worked(..)
             | Failure::Differs
             | Failure::Missing(_)
-            | Failure::Split(..) => 1,
+            | Failure::Split(..)
+            | Failure::Leaf(..)
+            | Failure::Unreached => 1,
             Failure::Read(_) | Failure::Write(_) | Failure::WriteFailed(..) => 3,
             Failure::OneFile(..) | Failure::Unwritten(_) => 3,
         }

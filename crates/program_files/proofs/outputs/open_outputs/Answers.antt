@@ -11,10 +11,3 @@ loop-index-preserved g c =
       count = search rules;
       unwritten = subst (All (λ (b : Block). b.held ≡ [])) (sym items) (All-push (λ (b : Block). b.held ≡ []) at.ports.items c.in-Ok.file at.invariant.unwritten c.in-Ok.ensures);
     }
-
-pub returns-in-Ok-with_capacity-clause-unwritten : goal.returns-in-Ok-with_capacity-clause-unwritten
-returns-in-Ok-with_capacity-clause-unwritten g c = record {
-  ports = c.loop-index.invariant.unwritten;
-  underlay = c.in-Ok-open_written.ensures;
-  decisions = c.in-Ok-open_written-2.ensures;
-}

@@ -18,8 +18,8 @@ invariant_of-self c =
     let k = c.index_mut-kept.result.now in
     let more : Kept = record { place = k.place; number = k.number; moment = k.moment; at = k.at; length = k.length; before = k.before; alike = k.alike; awaited = c.remove.new.self } in
     let is = laid-met c.self.inside.frames.items c.self.inside.row c.args.i k more (told c.args.met.now) h c.index_mut-kept.ensures.value refl refl refl refl c.remove.ensures in
-    kept-met (deque_capacity c.self.inside.frames) c.self.inside.index.gone c.self.inside.index.passed c.args.i k more (told c.args.met.now) c.self.inside.frames.items c.self.inside.row c.self.inside.index.latest.items
-    h c.index_mut-kept.ensures.value refl refl refl refl refl is c.self.invariant
+    kept-met (deque_capacity c.self.inside.frames) c.self.inside.first c.self.inside.passed c.args.i k more (told c.args.met.now) c.self.inside.frames.items c.self.inside.row c.self.inside.latest.items
+    h c.index_mut-kept.ensures.value refl refl refl refl is c.self.invariant
 
 pub returns-clause-origin : goal.returns-clause-origin
 returns-clause-origin c =

@@ -32,11 +32,11 @@ loop-file-preserved g c =
 
 pub loop-file-init : goal.loop-file-init
 loop-file-init g c =
-    let room = c.requires.room in
+    let room = c.self.invariant.1 in
     record {
       count = ap length room;
       all = search rules;
-      unwritten = subst (All (λ (b : Block). b.held ≡ [])) (sym c.into_iter-file-iterator.ensures.into_iter_gives.0) c.requires.unwritten.ports;
+      unwritten = subst (All (λ (b : Block). b.held ≡ [])) (sym c.into_iter-file-iterator.ensures.into_iter_gives.0) c.self.invariant.0.ports;
       held = subst (λ (ports : List Drain). All (IsHeld g.F.Write.contents) (map (λ (d : Drain). d.written) ports)) (sym room) (λ k d low. absurd (omega (arith, low)));
     }
 
@@ -47,6 +47,6 @@ returns-in-Ok-clause-in_files g c =
     let last = c.empty-2.ensures in
     record {
       ports = c.loop-file.invariant.held;
-      underlay = (last.0, ap (λ (d : Drain). d.written) c.new-in-Ok.ensures ∙ told_by_file c.args.self.underlay (contents last.0) c.requires.unwritten.underlay last.1);
-      decisions = (lines.0, told_by_file c.args.self.decisions (contents lines.0) c.requires.unwritten.decisions lines.1);
+      underlay = (last.0, ap (λ (d : Drain). d.written) c.new-in-Ok.ensures ∙ told_by_file c.self.inside.underlay (contents last.0) c.self.invariant.0.underlay last.1);
+      decisions = (lines.0, told_by_file c.self.inside.decisions (contents lines.0) c.self.invariant.0.decisions lines.1);
     }

@@ -9,7 +9,7 @@ use Rattle.program_files.proofs.outputs.Opened.emptied.Given as goal
 abbrev pub invariant-loop-file : goal.invariant-loop-file
 invariant-loop-file g l = record {
   count : length l.ports.items ≡ length l.yielded;
-  all : l.yielded ++ into_iter_items l.file-iterator ≡ l.fn.self.ports.items;
+  all : l.yielded ++ into_iter_items l.file-iterator ≡ into_iter_items l.initial.file-iterator;
   unwritten : All (λ (b : Block). b.held ≡ []) (into_iter_items l.file-iterator);
   held : All (IsHeld g.F.Write.contents) (map (λ (d : Drain). d.written) l.ports.items);
 }

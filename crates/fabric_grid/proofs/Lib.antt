@@ -1,0 +1,3 @@
+pub mod Below
+pub mod Matrix
+pub mod Telling

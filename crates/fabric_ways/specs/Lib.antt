@@ -1,0 +1,7 @@
+pub mod Hops
+pub mod Labels
+pub mod Leads
+pub mod Members
+pub mod Networks
+pub mod Picture
+pub mod Rows
